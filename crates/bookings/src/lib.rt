@@ -1,0 +1,4 @@
+// A book of beds that entries change: what an entry does to it, and how that is undone.
+pub mod entry;
+pub mod outcome;
+pub mod refusal;
