@@ -1,3 +1,6 @@
+pub mod Books
+pub mod Nights
+pub mod Outcomes
 pub mod Plain
 pub mod Ranges
 pub mod Refusals

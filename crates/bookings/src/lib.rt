@@ -1,4 +1,6 @@
 // A book of beds that entries change: what an entry does to it, and how that is undone.
 pub mod entry;
+mod free;
+mod nights;
 pub mod outcome;
 pub mod refusal;

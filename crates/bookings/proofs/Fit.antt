@@ -1,0 +1,54 @@
+-- A night more, and a choice more: how the answer goes on from what is left.
+use mathlib.Core.Bool.{Bool, true, false, cond}
+use mathlib.Core.List.{List, [], _∷_, map}
+use mathlib.Core.Path.{_≡_, refl, sym, _∙_, ap}
+use Prim.Native.Nat.{ℕ, zero, suc, _+_, _-_, _<_, _≤_}
+use native.Mathlib.Omega.{arith}
+use native.Mathlib.Numerals.{add-one}
+use lib.Dec.{leb}
+use lib.ListN.{length, getD, drop}
+use Rattle.std.proofs.shelf.Lists.{drop-more, drop-all, drop-map}
+use Rattle.std.proofs.shelf.Tests.{le-leb, lt-leb}
+use Rattle.std.specs.declared.option.Option.{Option}
+use Rattle.std.specs.declared.option.Option.the-variants.{Some, None}
+use Rattle.bookings.specs.declared.entry.Choice.{Choice}
+use Rattle.bookings.specs.Books.{firstFree}
+use Rattle.bookings.specs.Nights.{allFree, isFree}
+use Rattle.bookings.specs.Plain.{PlainChoice, plainChoice}
+
+pub free-yes :
+    (beds booked : List ℕ) (s n w : ℕ) → 0 < n → w ≤ getD beds s 0 - getD booked s 0
+    → allFree beds booked s n w ≡ allFree beds booked (s + 1) (n - 1) w
+free-yes beds booked s zero w pos h = absurd (omega arith)
+free-yes beds booked s (suc n) w pos h =
+    let e : suc n - 1 ≡ n = omega arith in rw (le-leb w (getD beds s 0 - getD booked s 0) h, e, add-one s) refl
+
+pub free-no :
+    (beds booked : List ℕ) (s n w : ℕ) → 0 < n → getD beds s 0 - getD booked s 0 < w → allFree beds booked s n w ≡ false
+free-no beds booked s zero w pos h = absurd (omega arith)
+free-no beds booked s (suc n) w pos h = rw (lt-leb w (getD beds s 0 - getD booked s 0) h) refl
+
+pub free-none : (beds booked : List ℕ) (s n w : ℕ) → n ≤ 0 → allFree beds booked s n w ≡ true
+free-none beds booked s zero w h = refl
+free-none beds booked s (suc n) w h = absurd (omega arith)
+
+next-choice :
+    (i : ℕ) (cs : List Choice) (c : Choice) → i < length cs → c ≡ getD cs i c → drop i (map plainChoice cs) ≡ plainChoice c ∷ drop (i + 1) (map plainChoice cs)
+next-choice i cs c h is =
+    drop-map plainChoice i cs ∙ ap (map plainChoice) (drop-more cs i c h ∙ ap (λ d. d ∷ drop (i + 1) cs) (sym is))
+    ∙ ap (λ l. plainChoice c ∷ l) (sym (drop-map plainChoice (i + 1) cs))
+
+module _ (beds booked : List ℕ) (over : Option ℕ) where
+  pub first-yes :
+      (j i : ℕ) (cs : List Choice) (c : Choice) → i < length cs → c ≡ getD cs i c → isFree beds booked (plainChoice c) ≡ true
+      → firstFree beds booked over j (drop i (map plainChoice cs)) ≡ Some (record { number = j; choice = plainChoice c; replaces = over })
+  first-yes j i cs c h is free = rw (next-choice i cs c h is, free) refl
+
+  pub first-no :
+      (j i : ℕ) (cs : List Choice) (c : Choice) → i < length cs → c ≡ getD cs i c → isFree beds booked (plainChoice c) ≡ false
+      → firstFree beds booked over j (drop i (map plainChoice cs)) ≡ firstFree beds booked over (j + 1) (drop (i + 1) (map plainChoice cs))
+  first-no j i cs c h is taken = rw (next-choice i cs c h is, taken, add-one j) refl
+
+  pub first-end :
+      (j i : ℕ) (cs : List Choice) → length cs ≤ i → firstFree beds booked over j (drop i (map plainChoice cs)) ≡ None
+  first-end j i cs h = rw (drop-map plainChoice i cs, drop-all i cs h) refl
