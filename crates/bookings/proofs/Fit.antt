@@ -8,12 +8,13 @@ use native.Mathlib.Numerals.{add-one}
 use lib.Dec.{leb}
 use lib.ListN.{length, getD, drop}
 use Rattle.std.proofs.shelf.Lists.{drop-more, drop-all, drop-map}
-use Rattle.std.proofs.shelf.Tests.{le-leb, lt-leb}
+use Rattle.std.proofs.shelf.Tests.{le-leb, lt-leb, leb-true}
 use Rattle.std.specs.declared.option.Option.{Option}
 use Rattle.std.specs.declared.option.Option.the-variants.{Some, None}
 use Rattle.bookings.specs.declared.entry.Choice.{Choice}
 use Rattle.bookings.specs.Books.{firstFree}
 use Rattle.bookings.specs.Nights.{allFree, isFree}
+use Rattle.bookings.specs.Outcomes.{PlainGrant}
 use Rattle.bookings.specs.Plain.{PlainChoice, plainChoice}
 
 pub free-yes :
@@ -52,3 +53,39 @@ module _ (beds booked : List ℕ) (over : Option ℕ) where
   pub first-end :
       (j i : ℕ) (cs : List Choice) → length cs ≤ i → firstFree beds booked over j (drop i (map plainChoice cs)) ≡ None
   first-end j i cs h = rw (drop-map plainChoice i cs, drop-all i cs h) refl
+
+-- where all nights are free, each is
+at-step :
+    (beds booked : List ℕ) (s n w : ℕ) (b : Bool) → leb w (getD beds s 0 - getD booked s 0) ≡ b
+    → cond b (allFree beds booked (suc s) n w) false ≡ true
+    → (w ≤ getD beds s 0 - getD booked s 0) × (allFree beds booked (suc s) n w ≡ true)
+at-step beds booked s n w true t e = (leb-true w (getD beds s 0 - getD booked s 0) t, e)
+at-step beds booked s n w false t e = absurd (let z : _≡_ {A = ℕ} 0 1 = cc in omega arith)
+
+pub free-at :
+    (beds booked : List ℕ) (s n w k : ℕ) → allFree beds booked s n w ≡ true → k < n → w ≤ getD beds (s + k) 0 - getD booked (s + k) 0
+free-at beds booked s zero w k e h = absurd (omega arith)
+free-at beds booked s (suc n) w zero e h =
+    let z : s + 0 ≡ s = omega arith in
+    rw z (at-step beds booked s n w (leb w (getD beds s 0 - getD booked s 0)) refl e .0)
+free-at beds booked s (suc n) w (suc k) e h =
+    let z : s + suc k ≡ suc s + k = omega arith in
+    rw z (free-at beds booked (suc s) n w k (at-step beds booked s n w (leb w (getD beds s 0 - getD booked s 0)) refl e .1) (omega arith))
+
+-- the choice that is found is free
+first-step :
+    (beds booked : List ℕ) (over : Option ℕ) (i : ℕ) (g : PlainGrant) (d : PlainChoice) (cs : List PlainChoice) (b : Bool) → isFree beds booked d ≡ b
+    → (firstFree beds booked over (suc i) cs ≡ Some g → isFree beds booked (g .choice) ≡ true)
+    → cond b (Some (record { number = i; choice = d; replaces = over })) (firstFree beds booked over (suc i) cs) ≡ Some g
+    → isFree beds booked (g .choice) ≡ true
+first-step beds booked over i g d cs true free further e =
+    let same : record { number = i; choice = d; replaces = over } ≡ g = cc in
+    ap (λ (x : PlainGrant). isFree beds booked (x .choice)) (sym same) ∙ free
+first-step beds booked over i g d cs false free further e = further e
+
+pub first-is-free :
+    (beds booked : List ℕ) (over : Option ℕ) (i : ℕ) (g : PlainGrant) (cs : List PlainChoice) → firstFree beds booked over i cs ≡ Some g
+    → isFree beds booked (g .choice) ≡ true
+first-is-free beds booked over i g [] e = absurd (let z : _≡_ {A = ℕ} 0 1 = cc in omega arith)
+first-is-free beds booked over i g (d ∷ cs) e =
+    first-step beds booked over i g d cs (isFree beds booked d) refl (first-is-free beds booked over (suc i) g cs) e

@@ -1,2 +1,5 @@
+pub mod Deeds
+pub mod Find
 pub mod Fit
 pub mod Over
+pub mod Ranged

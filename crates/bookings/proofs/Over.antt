@@ -10,7 +10,9 @@ use lib.Dec.{leb, ltb}
 use lib.ListN.{length, getD, set, take, drop, length-set, length-drop}
 use Rattle.std.proofs.shelf.Lists.{getD-set-same, getD-set-other, getD-take, getD-drop, take-more, take-more-set, same-lists, getD-default}
 use Rattle.std.proofs.shelf.Tests.{cases-lt, cases-eq, le-leb, lt-leb, lt-ltb, le-ltb}
-use Rattle.bookings.specs.Nights.{inside, over}
+use Rattle.bookings.specs.Nights.{first, over, claim, release}
+use Rattle.bookings.specs.Plain.{PlainStay, PlainChoice}
+use Rattle.bookings.specs.Ranges.{StayOk}
 
 pub over-more : (f : ℕ → ℕ → ℕ) (xs : List ℕ) (s n : ℕ) → over f xs s (n + 1) ≡ set (over f xs s n) (s + n) (f (s + n) (getD (over f xs s n) (s + n) 0))
 over-more f xs s n = rw add-one refl
@@ -88,3 +90,27 @@ pub kept-at : (were : List ℕ) (s n nights : ℕ) → n < nights → getD were 
 kept-at were s n nights h =
     let at : (s + n) - s ≡ n = omega arith in
     sym (getD-take nights were n 0 h) ∙ sym (ap (λ i. getD (take nights were) i 0) at)
+
+-- beds that are booked and given back, and the other way round
+pub stay-fits : (s : PlainStay) → StayOk s → first s + s .nights ≤ 5856
+stay-fits s ok = omega arith
+
+module _ (booked : List ℕ) (c : PlainChoice) (long : length booked ≡ 5856) (ok : StayOk (c .stay)) where
+  fits : first (c .stay) + c .stay .nights ≤ length booked
+  fits = omega (arith, stay-fits (c .stay) ok)
+
+  pub release-at : (k : ℕ) → k < c .stay .nights → getD (release booked c) (first (c .stay) + k) 0 ≡ getD booked (first (c .stay) + k) 0 - c .beds
+  release-at k h = over-inside (λ _ n. n - c .beds) booked (first (c .stay)) (c .stay .nights) (first (c .stay) + k) fits (omega arith) (omega arith)
+
+  pub release-after-claim : release (claim booked c) c ≡ booked
+  release-after-claim =
+      over-back (λ _ n. n + c .beds) (λ _ n. n - c .beds) booked (first (c .stay)) (c .stay .nights) fits (λ k from upto. omega arith)
+
+  pub claim-after-release :
+      ((k : ℕ) → k < c .stay .nights → c .beds ≤ getD booked (first (c .stay) + k) 0) → claim (release booked c) c ≡ booked
+  claim-after-release held =
+      over-back (λ _ n. n - c .beds) (λ _ n. n + c .beds) booked (first (c .stay)) (c .stay .nights) fits
+      (λ k from upto.
+          let at : first (c .stay) + (k - first (c .stay)) ≡ k = omega arith in
+          let there = rw at at (held (k - first (c .stay)) (omega arith)) in
+          omega arith)

@@ -65,9 +65,17 @@ pub record Effect : Type 0 where
 abbrev pub idle : PlainBook → PlainOutcome → Effect
 idle b o = record { beds = b .beds; booked = b .booked; outcomes = b .outcomes; own = o }
 
+-- what becomes of a booking that got a choice, or none
+abbrev pub claimed : List ℕ → Option PlainGrant → List ℕ
+claimed booked None = booked
+claimed booked (Some g) = claim booked (g .choice)
+
+abbrev pub granted : Option PlainGrant → PlainOutcome
+granted None = nothing
+granted (Some g) = holds g
+
 abbrev pub booking : PlainBook → Option PlainGrant → Effect
-booking b None = idle b nothing
-booking b (Some g) = record { beds = b .beds; booked = claim (b .booked) (g .choice); outcomes = b .outcomes; own = holds g }
+booking b g = record { beds = b .beds; booked = claimed (b .booked) g; outcomes = b .outcomes; own = granted g }
 
 abbrev pub cancelling : PlainBook → Option Standing → Effect
 cancelling b None = idle b (freed None)

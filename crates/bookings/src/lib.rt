@@ -1,6 +1,8 @@
 // A book of beds that entries change: what an entry does to it, and how that is undone.
 pub mod entry;
+mod effects;
 mod free;
 mod nights;
 pub mod outcome;
 pub mod refusal;
+mod standing;

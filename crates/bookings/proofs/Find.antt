@@ -1,0 +1,68 @@
+-- Where a mark stands, and what the booking there holds.
+use mathlib.Core.Bool.{Bool, true, false, cond, _&&_}
+use mathlib.Core.List.{List, [], _∷_, map}
+use mathlib.Core.Path.{_≡_, refl, sym, _∙_, ap}
+use Prim.Native.Nat.{ℕ, zero, suc, _+_, _-_, _<_, _≤_}
+use native.Mathlib.Numerals.{add-one}
+use native.Mathlib.Omega.{arith}
+use lib.Dec.{eqb}
+use lib.ListN.{length, getD, drop}
+use Rattle.std.proofs.shelf.Lists.{drop-more, drop-all, drop-map, getD-map}
+use Rattle.std.specs.declared.option.Option.{Option}
+use Rattle.std.specs.declared.option.Option.the-variants.{Some, None}
+use Rattle.bookings.specs.declared.entry.Mark.{Mark}
+use Rattle.bookings.specs.declared.outcome.Outcome.{Outcome}
+use Rattle.bookings.specs.Books.{sameMark, placeFrom, standing, standingAt, standingWith}
+use Rattle.bookings.specs.Outcomes.{PlainGrant, PlainOutcome, holds, nothing, cancelled, changed, freed, resized, plainOutcome, heldBy}
+use Rattle.bookings.specs.Plain.{PlainMark, plainMark}
+
+next-mark :
+    (i : ℕ) (ms : List Mark) (m : Mark) → i < length ms → m ≡ getD ms i m → drop i (map plainMark ms) ≡ plainMark m ∷ drop (i + 1) (map plainMark ms)
+next-mark i ms m h is =
+    drop-map plainMark i ms ∙ ap (map plainMark) (drop-more ms i m h ∙ ap (λ d. d ∷ drop (i + 1) ms) (sym is))
+    ∙ ap (λ l. plainMark m ∷ l) (sym (drop-map plainMark (i + 1) ms))
+
+pub place-here :
+    (n : PlainMark) (j i : ℕ) (ms : List Mark) (m : Mark) → i < length ms → m ≡ getD ms i m → sameMark n (plainMark m) ≡ true
+    → placeFrom j n (drop i (map plainMark ms)) ≡ Some j
+place-here n j i ms m h is same = rw (next-mark i ms m h is, same) refl
+
+pub place-on :
+    (n : PlainMark) (j i : ℕ) (ms : List Mark) (m : Mark) → i < length ms → m ≡ getD ms i m → sameMark n (plainMark m) ≡ false
+    → placeFrom j n (drop i (map plainMark ms)) ≡ placeFrom (j + 1) n (drop (i + 1) (map plainMark ms))
+place-on n j i ms m h is other = rw (next-mark i ms m h is, other, add-one j) refl
+
+pub place-nowhere : (n : PlainMark) (j i : ℕ) (ms : List Mark) → length ms ≤ i → placeFrom j n (drop i (map plainMark ms)) ≡ None
+place-nowhere n j i ms h = rw (drop-map plainMark i ms, drop-all i ms h) refl
+
+-- a place that is found is one of the list's
+place-step :
+    (m n : PlainMark) (i p : ℕ) (ns : List PlainMark) (b : Bool) → (placeFrom (suc i) m ns ≡ Some p → (i < p) × (p < suc i + length ns))
+    → cond b (Some i) (placeFrom (suc i) m ns) ≡ Some p → (i ≤ p) × (p < i + suc (length ns))
+place-step m n i p ns true further e = let same : i ≡ p = cc in (omega arith, omega arith)
+place-step m n i p ns false further e = let rest = further e in (omega arith, omega arith)
+
+pub place-within : (m : PlainMark) (i p : ℕ) (ms : List PlainMark) → placeFrom i m ms ≡ Some p → (i ≤ p) × (p < i + length ms)
+place-within m i p [] e = let z : _≡_ {A = ℕ} 0 1 = cc in absurd (omega arith)
+place-within m i p (n ∷ ns) e =
+    place-step m n i p ns (sameMark m n) (λ e. let rest = place-within m (suc i) p ns e in (omega arith, omega arith)) e
+
+pub outcome-there :
+    (os : List Outcome) (p : ℕ) (o : Outcome) → p < length os → o ≡ getD os p o → getD (map plainOutcome os) p nothing ≡ plainOutcome o
+outcome-there os p o h is = getD-map plainOutcome os p o nothing h ∙ ap plainOutcome (sym is)
+
+pub stands-there :
+    (ms : List PlainMark) (os : List Outcome) (m : PlainMark) (p : ℕ) (o : Outcome) → Some p ≡ placeFrom 0 m ms → p < length os → o ≡ getD os p o
+    → standing ms (map plainOutcome os) m ≡ standingWith p (heldBy (plainOutcome o))
+stands-there ms os m p o found h is =
+    ap (standingAt (map plainOutcome os)) (sym found)
+    ∙ ap (λ x. standingWith p (heldBy x)) (outcome-there os p o h is)
+
+-- what holds a choice is a booking that holds it
+pub held-is : (o : PlainOutcome) (g : PlainGrant) → Some g ≡ heldBy o → o ≡ holds g
+held-is (holds h) g e = cc
+held-is nothing g e = absurd (let z : _≡_ {A = ℕ} 0 1 = cc in omega arith)
+held-is (cancelled h) g e = absurd (let z : _≡_ {A = ℕ} 0 1 = cc in omega arith)
+held-is (changed h m) g e = absurd (let z : _≡_ {A = ℕ} 0 1 = cc in omega arith)
+held-is (freed p) g e = absurd (let z : _≡_ {A = ℕ} 0 1 = cc in omega arith)
+held-is (resized s were) g e = absurd (let z : _≡_ {A = ℕ} 0 1 = cc in omega arith)
