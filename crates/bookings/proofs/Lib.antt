@@ -1,3 +1,4 @@
+pub mod Back
 pub mod Deeds
 pub mod Find
 pub mod Fit

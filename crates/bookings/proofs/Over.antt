@@ -10,7 +10,7 @@ use lib.Dec.{leb, ltb}
 use lib.ListN.{length, getD, set, take, drop, length-set, length-drop}
 use Rattle.std.proofs.shelf.Lists.{getD-set-same, getD-set-other, getD-take, getD-drop, take-more, take-more-set, same-lists, getD-default}
 use Rattle.std.proofs.shelf.Tests.{cases-lt, cases-eq, le-leb, lt-leb, lt-ltb, le-ltb}
-use Rattle.bookings.specs.Nights.{first, over, claim, release}
+use Rattle.bookings.specs.Nights.{first, inside, over, claim, release}
 use Rattle.bookings.specs.Plain.{PlainStay, PlainChoice}
 use Rattle.bookings.specs.Ranges.{StayOk}
 
@@ -50,6 +50,18 @@ over-inside f xs s (suc n) k fits low high =
         ∙ sym (ap (λ j. f j (getD xs j 0)) e))
     (λ ne. let apart : k ≢ s + n = ne in rw getD-set-other (over-inside f xs s n k (omega arith) low (omega arith)))
     (cases-eq k (s + n))
+
+-- at each place the number is replaced, or as it was
+pub over-cases :
+    (f : ℕ → ℕ → ℕ) (xs : List ℕ) (s n k : ℕ) → s + n ≤ length xs
+    → ((inside s n k ≡ true) × (getD (over f xs s n) k 0 ≡ f k (getD xs k 0))) ⊎ ((inside s n k ≡ false) × (getD (over f xs s n) k 0 ≡ getD xs k 0))
+over-cases f xs s n k fits =
+    ⊎-elim (λ low. inr (rw (lt-leb s k low) refl, over-below f xs s n k low))
+    (λ from.
+        ⊎-elim (λ upto. inl (rw (le-leb s k from) (lt-ltb k (s + n) upto), over-inside f xs s n k fits from upto))
+        (λ past. inr (rw (le-leb s k from) (le-ltb k (s + n) past), over-past f xs s n k past))
+        (cases-lt k (s + n)))
+    (cases-lt k s)
 
 -- a replacement that is undone at each place is undone as a whole
 pub over-back :

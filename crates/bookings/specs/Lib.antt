@@ -5,4 +5,5 @@ pub mod Outcomes
 pub mod Plain
 pub mod Ranges
 pub mod Refusals
+pub mod Undone
 pub mod Views

@@ -6,3 +6,4 @@ mod nights;
 pub mod outcome;
 pub mod refusal;
 mod standing;
+mod undo;
