@@ -12,7 +12,7 @@ use Rattle.std.specs.declared.option.Option.{Option}
 use Rattle.std.specs.declared.option.Option.the-variants.{Some, None}
 use Rattle.bookings.specs.declared.entry.Mark.{Mark}
 use Rattle.bookings.specs.declared.outcome.Outcome.{Outcome}
-use Rattle.bookings.specs.Books.{sameMark, placeFrom, standing, standingAt, standingWith}
+use Rattle.bookings.specs.Books.{Standing, sameMark, placeFrom, standing, standingAt, standingWith}
 use Rattle.bookings.specs.Outcomes.{PlainGrant, PlainOutcome, holds, nothing, cancelled, changed, freed, resized, plainOutcome, heldBy}
 use Rattle.bookings.specs.Plain.{PlainMark, plainMark}
 
@@ -66,3 +66,15 @@ held-is (cancelled h) g e = absurd (let z : _≡_ {A = ℕ} 0 1 = cc in omega ar
 held-is (changed h m) g e = absurd (let z : _≡_ {A = ℕ} 0 1 = cc in omega arith)
 held-is (freed p) g e = absurd (let z : _≡_ {A = ℕ} 0 1 = cc in omega arith)
 held-is (resized s were) g e = absurd (let z : _≡_ {A = ℕ} 0 1 = cc in omega arith)
+
+-- a booking that is found standing holds what is found
+found-with : (q : ℕ) (o : Option PlainGrant) (s : Standing) → standingWith q o ≡ Some s → (q ≡ s .place) × (o ≡ Some (s .grant))
+found-with q None s e = absurd (let z : _≡_ {A = ℕ} 0 1 = cc in omega arith)
+found-with q (Some g) s e = let same : record { place = q; grant = g } ≡ s = cc in (ap (λ (x : Standing). x .place) same, ap (λ (x : Standing). Some (x .grant)) same)
+
+pub standing-holds :
+    (os : List PlainOutcome) (p : Option ℕ) (s : Standing) → standingAt os p ≡ Some s → getD os (s .place) nothing ≡ holds (s .grant)
+standing-holds os None s e = absurd (let z : _≡_ {A = ℕ} 0 1 = cc in omega arith)
+standing-holds os (Some q) s e =
+    let both = found-with q (heldBy (getD os q nothing)) s e in
+    ap (λ i. getD os i nothing) (sym (both .0)) ∙ held-is (getD os q nothing) (s .grant) (sym (both .1))

@@ -1,7 +1,7 @@
 -- A night more, and a choice more: how the answer goes on from what is left.
 use mathlib.Core.Bool.{Bool, true, false, cond}
 use mathlib.Core.List.{List, [], _∷_, map}
-use mathlib.Core.Path.{_≡_, refl, sym, _∙_, ap}
+use mathlib.Core.Path.{_≡_, refl, sym, _∙_, ap, subst}
 use Prim.Native.Nat.{ℕ, zero, suc, _+_, _-_, _<_, _≤_}
 use native.Mathlib.Omega.{arith}
 use native.Mathlib.Numerals.{add-one}
@@ -16,6 +16,7 @@ use Rattle.bookings.specs.Books.{firstFree}
 use Rattle.bookings.specs.Nights.{allFree, isFree}
 use Rattle.bookings.specs.Outcomes.{PlainGrant}
 use Rattle.bookings.specs.Plain.{PlainChoice, plainChoice}
+use Rattle.bookings.specs.Ranges.{Each}
 
 pub free-yes :
     (beds booked : List ℕ) (s n w : ℕ) → 0 < n → w ≤ getD beds s 0 - getD booked s 0
@@ -89,3 +90,21 @@ pub first-is-free :
 first-is-free beds booked over i g [] e = absurd (let z : _≡_ {A = ℕ} 0 1 = cc in omega arith)
 first-is-free beds booked over i g (d ∷ cs) e =
     first-step beds booked over i g d cs (isFree beds booked d) refl (first-is-free beds booked over (suc i) g cs) e
+
+-- what holds of each choice holds of the one that is found, which is for what it was looked for
+each-step :
+    (P : PlainChoice → Type 0) (beds booked : List ℕ) (over : Option ℕ) (i : ℕ) (g : PlainGrant) (d : PlainChoice) (cs : List PlainChoice) (b : Bool) → P d
+    → (firstFree beds booked over (suc i) cs ≡ Some g → P (g .choice) × (g .replaces ≡ over))
+    → cond b (Some (record { number = i; choice = d; replaces = over })) (firstFree beds booked over (suc i) cs) ≡ Some g
+    → P (g .choice) × (g .replaces ≡ over)
+each-step P beds booked over i g d cs true here further e =
+    let same : record { number = i; choice = d; replaces = over } ≡ g = cc in
+    (subst (λ (x : PlainGrant). P (x .choice)) same here, sym (ap (λ (x : PlainGrant). x .replaces) same))
+each-step P beds booked over i g d cs false here further e = further e
+
+pub first-each :
+    (P : PlainChoice → Type 0) (beds booked : List ℕ) (over : Option ℕ) (i : ℕ) (g : PlainGrant) (cs : List PlainChoice) → Each P cs
+    → firstFree beds booked over i cs ≡ Some g → P (g .choice) × (g .replaces ≡ over)
+first-each P beds booked over i g [] all e = absurd (let z : _≡_ {A = ℕ} 0 1 = cc in omega arith)
+first-each P beds booked over i g (d ∷ cs) all e =
+    each-step P beds booked over i g d cs (isFree beds booked d) (all .0) (first-each P beds booked over (suc i) g cs (all .1)) e

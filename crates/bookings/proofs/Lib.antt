@@ -1,6 +1,10 @@
 pub mod Back
 pub mod Deeds
+pub mod Each
 pub mod Find
 pub mod Fit
 pub mod Over
 pub mod Ranged
+pub mod Sound
+pub mod Tally
+pub mod Undoing

@@ -5,11 +5,16 @@ use mathlib.Core.Path.{_≡_}
 use Prim.Native.Nat.{ℕ, _+_, _<_, _≤_}
 use lib.ListN.{getD}
 use Rattle.bookings.specs.Nights.{first, inside}
+use Rattle.bookings.specs.Plain.{PlainChoice}
 use Rattle.bookings.specs.Outcomes.{PlainGrant, PlainOutcome, holds, nothing, cancelled, changed, freed, resized}
 
--- the beds that a booking holds at a place
+-- the beds of a choice at a place
+abbrev pub share : ℕ → PlainChoice → ℕ
+share k c = cond (inside (first (c .stay)) (c .stay .nights) k) (c .beds) 0
+
+-- the beds that a booking holds there
 abbrev pub heldAt : ℕ → PlainOutcome → ℕ
-heldAt k (holds g) = cond (inside (first (g .choice .stay)) (g .choice .stay .nights) k) (g .choice .beds) 0
+heldAt k (holds g) = share k (g .choice)
 heldAt k nothing = 0
 heldAt k (cancelled g) = 0
 heldAt k (changed g m) = 0
