@@ -1,4 +1,6 @@
 -- What holds of each element of a list.
+use denote.Struct.Props.{props}
+use mathlib.Core.HLevel.{×-prop}
 use mathlib.Core.List.{List, [], _∷_, _++_, map}
 use Prim.Native.Nat.{ℕ, zero, suc}
 use lib.ListN.{getD, set, take}
@@ -22,3 +24,7 @@ module _ {A : Type 0} (P : A → Type 0) where
 pub each-map : {A B : Type 0} (f : A → B) (P : B → Type 0) (xs : List A) → ((x : A) → P (f x)) → Each P (map f xs)
 each-map f P [] all = tt
 each-map f P (x ∷ xs) all = (all x, each-map f P xs all)
+
+pub each-prop : {A : Type 0} (P : A → Type 0) → ((x : A) → IsProp (P x)) → (xs : List A) → IsProp (Each P xs)
+each-prop P one [] = search props
+each-prop P one (x ∷ xs) = ×-prop (one x) (each-prop P one xs)

@@ -5,6 +5,8 @@ pub mod Find
 pub mod Fit
 pub mod Over
 pub mod Ranged
+pub mod Reach
 pub mod Sound
 pub mod Tally
 pub mod Undoing
+pub mod Whole

@@ -4,6 +4,7 @@ pub mod Nights
 pub mod Outcomes
 pub mod Plain
 pub mod Ranges
+pub mod Reached
 pub mod Refusals
 pub mod Undone
 pub mod Views

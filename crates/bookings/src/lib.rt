@@ -1,6 +1,7 @@
 // A book of beds that entries change: what an entry does to it, and how that is undone.
-pub mod entry;
+pub mod book;
 mod effects;
+pub mod entry;
 mod free;
 mod nights;
 pub mod outcome;
