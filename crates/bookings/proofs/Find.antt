@@ -8,6 +8,7 @@ use native.Mathlib.Omega.{arith}
 use lib.Dec.{eqb}
 use lib.ListN.{length, getD, drop}
 use Rattle.std.proofs.shelf.Lists.{drop-more, drop-all, drop-map, getD-map}
+use Rattle.std.proofs.shelf.Tests.{and-parts, eqb-true}
 use Rattle.std.specs.declared.option.Option.{Option}
 use Rattle.std.specs.declared.option.Option.the-variants.{Some, None}
 use Rattle.bookings.specs.declared.entry.Mark.{Mark}
@@ -78,3 +79,26 @@ standing-holds os None s e = absurd (let z : _≡_ {A = ℕ} 0 1 = cc in omega a
 standing-holds os (Some q) s e =
     let both = found-with q (heldBy (getD os q nothing)) s e in
     ap (λ i. getD os i nothing) (sym (both .0)) ∙ held-is (getD os q nothing) (s .grant) (sym (both .1))
+
+-- where a mark is found it stands
+same-is : (m n : PlainMark) → sameMark m n ≡ true → m ≡ n
+same-is m n same =
+    let both = and-parts (eqb (m .stamp) (n .stamp)) (eqb (m .hut) (n .hut)) same in
+    let stamps = eqb-true (m .stamp) (n .stamp) (both .0) in
+    let huts = eqb-true (m .hut) (n .hut) (both .1) in
+    ap (λ s. record { stamp = s; hut = m .hut }) stamps ∙ ap (λ h. record { stamp = n .stamp; hut = h }) huts
+
+is-step :
+    (m n : PlainMark) (i p : ℕ) (ns : List PlainMark) (b : Bool) → sameMark m n ≡ b → (placeFrom (suc i) m ns ≡ Some p → m ≡ getD ns (p - suc i) m)
+    → cond b (Some i) (placeFrom (suc i) m ns) ≡ Some p → m ≡ getD (n ∷ ns) (p - i) m
+is-step m n i p ns true same further e = let z : p - i ≡ 0 = let at : i ≡ p = cc in omega arith in same-is m n same ∙ sym (ap (λ k. getD (n ∷ ns) k m) z)
+is-step m n i p ns false same further e =
+    let within = place-within m (suc i) p ns e in
+    let next : p - i ≡ suc (p - suc i) = omega arith in further e ∙ sym (ap (λ k. getD (n ∷ ns) k m) next)
+
+place-mark : (m : PlainMark) (i p : ℕ) (ms : List PlainMark) → placeFrom i m ms ≡ Some p → m ≡ getD ms (p - i) m
+place-mark m i p [] e = absurd (let z : _≡_ {A = ℕ} 0 1 = cc in omega arith)
+place-mark m i p (n ∷ ns) e = is-step m n i p ns (sameMark m n) refl (place-mark m (suc i) p ns) e
+
+pub place-is : (m : PlainMark) (i p : ℕ) (ms : List PlainMark) → placeFrom i m ms ≡ Some p → (p < i + length ms) × (m ≡ getD ms (p - i) m)
+place-is m i p ms e = (place-within m i p ms e .1, place-mark m i p ms e)

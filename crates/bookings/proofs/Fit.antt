@@ -108,3 +108,67 @@ pub first-each :
 first-each P beds booked over i g [] all e = absurd (let z : _≡_ {A = ℕ} 0 1 = cc in omega arith)
 first-each P beds booked over i g (d ∷ cs) all e =
     each-step P beds booked over i g d cs (isFree beds booked d) (all .0) (first-each P beds booked over (suc i) g cs (all .1)) e
+
+-- where each night is free, all are
+pub free-from :
+    (beds booked : List ℕ) (s n w : ℕ) → ((k : ℕ) → k < n → w ≤ getD beds (s + k) 0 - getD booked (s + k) 0) → allFree beds booked s n w ≡ true
+free-from beds booked s zero w each = refl
+free-from beds booked s (suc n) w each =
+    let here : w ≤ getD beds s 0 - getD booked s 0 = let z : s + 0 ≡ s = omega arith in rw z at (each 0 (omega arith)) in
+    rw (le-leb w (getD beds s 0 - getD booked s 0) here)
+    (free-from beds booked (suc s) n w (λ k h. let z : s + suc k ≡ suc s + k = omega arith in rw z at (each (suc k) (omega arith))))
+
+-- the grant that is found: which choice it is, and that no earlier one is free
+abbrev pub Found : List ℕ → List ℕ → ℕ → List PlainChoice → PlainGrant → Type 0
+Found beds booked i cs g =
+    (i ≤ g .number) × (g .number < i + length cs) × (g .choice ≡ getD cs (g .number - i) (g .choice))
+    × ((k : ℕ) (d : PlainChoice) → k < g .number - i → isFree beds booked (getD cs k d) ≡ false)
+
+found-step :
+    (beds booked : List ℕ) (over : Option ℕ) (i : ℕ) (g : PlainGrant) (d : PlainChoice) (cs : List PlainChoice) (b : Bool) → isFree beds booked d ≡ b
+    → (firstFree beds booked over (suc i) cs ≡ Some g → Found beds booked (suc i) cs g)
+    → cond b (Some (record { number = i; choice = d; replaces = over })) (firstFree beds booked over (suc i) cs) ≡ Some g
+    → Found beds booked i (d ∷ cs) g
+found-step beds booked over i g d cs true free further e =
+    let same : record { number = i; choice = d; replaces = over } ≡ g = cc in
+    subst (Found beds booked i (d ∷ cs)) same
+    (let none : i - i ≡ 0 = omega arith in (omega arith, omega arith, rw none refl, λ k f h. absurd (omega arith)))
+found-step beds booked over i g d cs false taken further e =
+    let rest = further e in
+    let next : g .number - i ≡ suc (g .number - suc i) = omega arith in (
+      omega arith,
+      omega arith,
+      rest .2 ∙ sym (ap (λ n. getD (d ∷ cs) n (g .choice)) next),
+      λ k f h. earlier k f h,
+    )
+  where
+    earlier : (k : ℕ) (f : PlainChoice) → k < g .number - i → isFree beds booked (getD (d ∷ cs) k f) ≡ false
+    earlier zero f h = taken
+    earlier (suc k) f h = further e .3 k f (omega arith)
+
+pub first-found :
+    (beds booked : List ℕ) (over : Option ℕ) (i : ℕ) (g : PlainGrant) (cs : List PlainChoice) → firstFree beds booked over i cs ≡ Some g → Found beds booked i cs g
+first-found beds booked over i g [] e = absurd (let z : _≡_ {A = ℕ} 0 1 = cc in omega arith)
+first-found beds booked over i g (d ∷ cs) e =
+    found-step beds booked over i g d cs (isFree beds booked d) refl (first-found beds booked over (suc i) g cs) e
+
+-- nothing is found just where no choice is free
+abbrev pub NoneIsFree : List ℕ → List ℕ → List PlainChoice → Type 0
+NoneIsFree beds booked cs = (k : ℕ) (d : PlainChoice) → k < length cs → isFree beds booked (getD cs k d) ≡ false
+
+none-step :
+    (beds booked : List ℕ) (over : Option ℕ) (i : ℕ) (d : PlainChoice) (cs : List PlainChoice) (b : Bool) → isFree beds booked d ≡ b
+    → (firstFree beds booked over (suc i) cs ≡ None → NoneIsFree beds booked cs)
+    → cond b (Some (record { number = i; choice = d; replaces = over })) (firstFree beds booked over (suc i) cs) ≡ None → NoneIsFree beds booked (d ∷ cs)
+none-step beds booked over i d cs true free further e k f h = absurd (let z : _≡_ {A = ℕ} 0 1 = cc in omega arith)
+none-step beds booked over i d cs false taken further e zero f h = taken
+none-step beds booked over i d cs false taken further e (suc k) f h = further e k f (omega arith)
+
+pub first-none : (beds booked : List ℕ) (over : Option ℕ) (i : ℕ) (cs : List PlainChoice) → firstFree beds booked over i cs ≡ None → NoneIsFree beds booked cs
+first-none beds booked over i [] e k f h = absurd (omega arith)
+first-none beds booked over i (d ∷ cs) e k f h =
+    none-step beds booked over i d cs (isFree beds booked d) refl (first-none beds booked over (suc i) cs) e k f h
+
+pub none-first : (beds booked : List ℕ) (over : Option ℕ) (i : ℕ) (cs : List PlainChoice) → NoneIsFree beds booked cs → firstFree beds booked over i cs ≡ None
+none-first beds booked over i [] none = refl
+none-first beds booked over i (d ∷ cs) none = rw (none 0 d (omega arith)) (none-first beds booked over (suc i) cs (λ k f h. none (suc k) f (omega arith)))

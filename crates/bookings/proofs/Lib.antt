@@ -8,5 +8,7 @@ pub mod Ranged
 pub mod Reach
 pub mod Sound
 pub mod Tally
+pub mod Theorems
 pub mod Undoing
 pub mod Whole
+pub mod Words

@@ -43,11 +43,11 @@ over-inside f xs s zero k fits low high = absurd (omega arith)
 over-inside f xs s (suc n) k fits low high =
     ⊎-elim
     (λ e.
-        let lt : s + n < length (over f xs s n) = omega (arith, length-over f xs s n) in
-        ap (λ j. getD (over f xs s (suc n)) j 0) e
-        ∙ getD-set-same (over f xs s n) (s + n) (f (s + n) (getD (over f xs s n) (s + n) 0)) 0 lt
-        ∙ ap (f (s + n)) (over-past f xs s n (s + n) (omega arith))
-        ∙ sym (ap (λ j. f j (getD xs j 0)) e))
+    let lt : s + n < length (over f xs s n) = omega (arith, length-over f xs s n) in
+    ap (λ j. getD (over f xs s (suc n)) j 0) e
+    ∙ getD-set-same (over f xs s n) (s + n) (f (s + n) (getD (over f xs s n) (s + n) 0)) 0 lt
+    ∙ ap (f (s + n)) (over-past f xs s n (s + n) (omega arith))
+    ∙ sym (ap (λ j. f j (getD xs j 0)) e))
     (λ ne. let apart : k ≢ s + n = ne in rw getD-set-other (over-inside f xs s n k (omega arith) low (omega arith)))
     (cases-eq k (s + n))
 
@@ -58,9 +58,9 @@ pub over-cases :
 over-cases f xs s n k fits =
     ⊎-elim (λ low. inr (rw (lt-leb s k low) refl, over-below f xs s n k low))
     (λ from.
-        ⊎-elim (λ upto. inl (rw (le-leb s k from) (lt-ltb k (s + n) upto), over-inside f xs s n k fits from upto))
-        (λ past. inr (rw (le-leb s k from) (le-ltb k (s + n) past), over-past f xs s n k past))
-        (cases-lt k (s + n)))
+    ⊎-elim (λ upto. inl (rw (le-leb s k from) (lt-ltb k (s + n) upto), over-inside f xs s n k fits from upto))
+    (λ past. inr (rw (le-leb s k from) (le-ltb k (s + n) past), over-past f xs s n k past))
+    (cases-lt k (s + n)))
     (cases-lt k s)
 
 -- a replacement that is undone at each place is undone as a whole
@@ -72,19 +72,19 @@ over-back f g xs s n fits back =
     let twice = length-over g (over f xs s n) s n in
     same-lists _ _ (twice ∙ once)
     (λ k d h.
-        let inner : k < length xs = omega arith in
-        let here : getD (over g (over f xs s n) s n) k 0 ≡ getD xs k 0 =
-          ⊎-elim (λ low. over-below g (over f xs s n) s n k low ∙ over-below f xs s n k low)
-          (λ from.
-              ⊎-elim
-              (λ upto.
-                  over-inside g (over f xs s n) s n k (omega arith) from upto
-                  ∙ ap (g k) (over-inside f xs s n k fits from upto) ∙ back k from upto)
-              (λ past. over-past g (over f xs s n) s n k past ∙ over-past f xs s n k past)
-              (cases-lt k (s + n)))
-          (cases-lt k s)
-        in
-        getD-default (over g (over f xs s n) s n) k d 0 h ∙ here ∙ getD-default xs k 0 d inner)
+    let inner : k < length xs = omega arith in
+    let here : getD (over g (over f xs s n) s n) k 0 ≡ getD xs k 0 =
+    ⊎-elim (λ low. over-below g (over f xs s n) s n k low ∙ over-below f xs s n k low)
+    (λ from.
+    ⊎-elim
+    (λ upto.
+    over-inside g (over f xs s n) s n k (omega arith) from upto
+    ∙ ap (g k) (over-inside f xs s n k fits from upto) ∙ back k from upto)
+    (λ past. over-past g (over f xs s n) s n k past ∙ over-past f xs s n k past)
+    (cases-lt k (s + n)))
+    (cases-lt k s)
+    in
+    getD-default (over g (over f xs s n) s n) k d 0 h ∙ here ∙ getD-default xs k 0 d inner)
 
 -- the numbers that are replaced, read one after another
 pub read-step :
@@ -123,6 +123,6 @@ module _ (booked : List ℕ) (c : PlainChoice) (long : length booked ≡ 5856) (
   claim-after-release held =
       over-back (λ _ n. n - c .beds) (λ _ n. n + c .beds) booked (first (c .stay)) (c .stay .nights) fits
       (λ k from upto.
-          let at : first (c .stay) + (k - first (c .stay)) ≡ k = omega arith in
-          let there = rw at at (held (k - first (c .stay)) (omega arith)) in
-          omega arith)
+      let at : first (c .stay) + (k - first (c .stay)) ≡ k = omega arith in
+      let there = rw at at (held (k - first (c .stay)) (omega arith)) in
+      omega arith)

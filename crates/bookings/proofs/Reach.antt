@@ -35,15 +35,17 @@ row-past : (n k : ℕ) → 5856 ≤ k → getD (row n) k 0 ≡ 0
 row-past n k h = getD-past (row n) k 0 (omega (arith, length-row n))
 
 empty-sound : SoundBook emptyBook
-empty-sound =
-    (record {
-      long-beds = length-row 20;
-      long-booked = length-row 0;
-      within = λ k. ⊎-elim (λ h. omega (arith, row-at 0 k h)) (λ h. omega (arith, row-past 0 k h)) (cases-lt k 5856);
-      few = λ k. ⊎-elim (λ h. omega (arith, row-at 20 k h)) (λ h. omega (arith, row-past 20 k h)) (cases-lt k 5856);
-      tallies = λ k. ⊎-elim (λ h. omega (arith, row-at 0 k h)) (λ h. omega (arith, row-past 0 k h)) (cases-lt k 5856);
-      stays = tt;
-    }, refl)
+empty-sound = (
+  record {
+    long-beds = length-row 20;
+    long-booked = length-row 0;
+    within = λ k. ⊎-elim (λ h. omega (arith, row-at 0 k h)) (λ h. omega (arith, row-past 0 k h)) (cases-lt k 5856);
+    few = λ k. ⊎-elim (λ h. omega (arith, row-at 20 k h)) (λ h. omega (arith, row-past 20 k h)) (cases-lt k 5856);
+    tallies = λ k. ⊎-elim (λ h. omega (arith, row-at 0 k h)) (λ h. omega (arith, row-past 0 k h)) (cases-lt k 5856);
+    stays = tt;
+  },
+  refl,
+)
 
 folded-sound : (es : List PlainEntry) (b : PlainBook) → Each InRange es → SoundBook b → SoundBook (folded (λ c e. does e c) b es)
 folded-sound [] b ok sound = sound
@@ -68,15 +70,17 @@ module _ (b : PlainBook) (reached : Reached b) where
   sound-of w = subst SoundBook (sym (w .2)) (made-sound (w .0) (w .1))
 
   pub reached-sound : SoundBook b
-  reached-sound =
-      (record {
-        long-beds = ∥∥₁-elim reached (search props) (λ w. sound-of w .0 .long-beds);
-        long-booked = ∥∥₁-elim reached (search props) (λ w. sound-of w .0 .long-booked);
-        within = ∥∥₁-elim reached (search props) (λ w. sound-of w .0 .within);
-        few = ∥∥₁-elim reached (search props) (λ w. sound-of w .0 .few);
-        tallies = ∥∥₁-elim reached (search props) (λ w. sound-of w .0 .tallies);
-        stays = ∥∥₁-elim reached (each-prop HeldOk held-prop (b .outcomes)) (λ w. sound-of w .0 .stays);
-      }, ∥∥₁-elim reached (search props) (λ w. sound-of w .1))
+  reached-sound = (
+    record {
+      long-beds = ∥∥₁-elim reached (search props) (λ w. sound-of w .0 .long-beds);
+      long-booked = ∥∥₁-elim reached (search props) (λ w. sound-of w .0 .long-booked);
+      within = ∥∥₁-elim reached (search props) (λ w. sound-of w .0 .within);
+      few = ∥∥₁-elim reached (search props) (λ w. sound-of w .0 .few);
+      tallies = ∥∥₁-elim reached (search props) (λ w. sound-of w .0 .tallies);
+      stays = ∥∥₁-elim reached (each-prop HeldOk held-prop (b .outcomes)) (λ w. sound-of w .0 .stays);
+    },
+    ∥∥₁-elim reached (search props) (λ w. sound-of w .1),
+  )
 
   pub reached-covered : Covered (b .booked) (b .outcomes)
   reached-covered p g is k h = share-within (b .booked) (g .choice) k h (standing-share p g (first (g .choice .stay) + k) (reached-sound .0) is)
@@ -108,7 +112,7 @@ pub reached-undone : (b : PlainBook) → Reached b → 0 < length (b .marks) →
 reached-undone b reached some =
     ∥∥₁-map reached
     (λ w.
-        let count = ap (λ (x : PlainBook). length (x .marks)) (w .2) ∙ folded-marks (w .0) emptyBook in
-        let last = ends-with (w .0) (omega arith) in
-        let ok = each-front (last .0) (last .1) (subst (Each InRange) (last .2) (w .1)) in
-        (last .0, ok .0, ap undone (w .2 ∙ ap bookOf (last .2) ∙ book-push (last .0) (last .1)) ∙ undone-does (last .1) (bookOf (last .0)) (ok .1) (made-sound (last .0) (ok .0))))
+    let count = ap (λ (x : PlainBook). length (x .marks)) (w .2) ∙ folded-marks (w .0) emptyBook in
+    let last = ends-with (w .0) (omega arith) in
+    let ok = each-front (last .0) (last .1) (subst (Each InRange) (last .2) (w .1)) in
+    (last .0, ok .0, ap undone (w .2 ∙ ap bookOf (last .2) ∙ book-push (last .0) (last .1)) ∙ undone-does (last .1) (bookOf (last .0)) (ok .1) (made-sound (last .0) (ok .0))))

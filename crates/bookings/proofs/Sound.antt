@@ -87,7 +87,7 @@ release-sound {beds} {booked} {os} p g o s is none ok =
       few = s .few;
       tallies = λ k.
           let gone : heldOn k (set os p o) + share k (g .choice) ≡ heldOn k os + heldAt k o =
-            subst (λ q. heldOn k (set os p o) + heldAt k q ≡ heldOn k os + heldAt k o) is (held-set k p os o there) in
+          subst (λ q. heldOn k (set os p o) + heldAt k q ≡ heldOn k os + heldAt k o) is (held-set k p os o there) in
           omega (arith, left k, s .tallies k, none k);
       stays = each-set HeldOk os p o (s .stays) ok;
     }
@@ -124,19 +124,21 @@ module _ (b : PlainBook) (s : Sound (b .beds) (b .booked) (b .outcomes)) where
   cancelling-sound : (n : PlainMark) (o : Option Standing) → standing (b .marks) (b .outcomes) n ≡ o → SoundEffect b (cancelling b o)
   cancelling-sound n None is = (idle-sound (freed None) s (λ k. refl) tt, refl)
   cancelling-sound n (Some f) is =
-      let holding = standing-holds (b .outcomes) _ f is in
-      (idle-sound (freed (Some (f .place))) (release-sound (f .place) (f .grant) (cancelled (f .grant)) s holding (λ k. refl) tt) (λ k. refl) tt,
-      length-set (b .outcomes) (f .place) (cancelled (f .grant)))
+      let holding = standing-holds (b .outcomes) _ f is in (
+        idle-sound (freed (Some (f .place))) (release-sound (f .place) (f .grant) (cancelled (f .grant)) s holding (λ k. refl) tt) (λ k. refl) tt,
+        length-set (b .outcomes) (f .place) (cancelled (f .grant)),
+      )
 
   changingTo-sound :
       (m : PlainMark) (cs : List PlainChoice) (f : Standing) (g : Option PlainGrant) → Each ChoiceOk cs → getD (b .outcomes) (f .place) nothing ≡ holds (f .grant)
       → firstFree (b .beds) (release (b .booked) (f .grant .choice)) (Some (f .place)) 0 cs ≡ g → SoundEffect b (changingTo m b f g)
   changingTo-sound m cs f None ok holding is = (idle-sound nothing s (λ k. refl) tt, refl)
   changingTo-sound m cs f (Some g) ok holding is =
-      let given = release (b .booked) (f .grant .choice) in
-      (claim-sound g (release-sound (f .place) (f .grant) (changed (f .grant) m) s holding (λ k. refl) tt)
-      (first-is-free (b .beds) given (Some (f .place)) 0 g cs is) (first-each ChoiceOk (b .beds) given (Some (f .place)) 0 g cs ok is .0 .0),
-      length-set (b .outcomes) (f .place) (changed (f .grant) m))
+      let given = release (b .booked) (f .grant .choice) in (
+        claim-sound g (release-sound (f .place) (f .grant) (changed (f .grant) m) s holding (λ k. refl) tt)
+            (first-is-free (b .beds) given (Some (f .place)) 0 g cs is) (first-each ChoiceOk (b .beds) given (Some (f .place)) 0 g cs ok is .0 .0),
+        length-set (b .outcomes) (f .place) (changed (f .grant) m),
+      )
 
   changing-sound : (m n : PlainMark) (cs : List PlainChoice) (o : Option Standing) → Each ChoiceOk cs → standing (b .marks) (b .outcomes) n ≡ o → SoundEffect b (changing m cs b o)
   changing-sound m n cs None ok is = (idle-sound nothing s (λ k. refl) tt, refl)

@@ -78,5 +78,5 @@ pub share-within :
     → c .beds ≤ getD booked (first (c .stay) + k) 0
 share-within booked c k h low =
     let here : inside (first (c .stay)) (c .stay .nights) (first (c .stay) + k) ≡ true =
-      and-from _ _ (le-leb (first (c .stay)) (first (c .stay) + k) (omega arith)) (lt-ltb (first (c .stay) + k) (first (c .stay) + c .stay .nights) (omega arith)) in
+    and-from _ _ (le-leb (first (c .stay)) (first (c .stay) + k) (omega arith)) (lt-ltb (first (c .stay) + k) (first (c .stay) + c .stay .nights) (omega arith)) in
     omega (arith, share-inside (first (c .stay) + k) c here)

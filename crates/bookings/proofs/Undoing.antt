@@ -58,9 +58,9 @@ restored-back : (beds booked : List ℕ) (c : PlainChoice) → length beds ≡ 5
 restored-back beds booked c long ok =
     over-back (λ k _. max (c .beds) (getD booked k 0)) (λ k _. getD (numbersOn beds (c .stay)) (k - first (c .stay)) 0) beds (first (c .stay)) (c .stay .nights) (omega (arith, stay-fits (c .stay) ok))
     (λ k from upto.
-        let at : first (c .stay) + (k - first (c .stay)) ≡ k = omega arith in
-        getD-take (c .stay .nights) (drop (first (c .stay)) beds) (k - first (c .stay)) 0 (omega arith)
-        ∙ getD-drop (first (c .stay)) beds (k - first (c .stay)) 0 ∙ ap (λ j. getD beds j 0) at)
+    let at : first (c .stay) + (k - first (c .stay)) ≡ k = omega arith in
+    getD-take (c .stay .nights) (drop (first (c .stay)) beds) (k - first (c .stay)) 0 (omega arith)
+    ∙ getD-drop (first (c .stay)) beds (k - first (c .stay)) 0 ∙ ap (λ j. getD beds j 0) at)
 
 module _ (b : PlainBook) (s : Sound (b .beds) (b .booked) (b .outcomes)) where
   booking-back : (cs : List PlainChoice) (g : Option PlainGrant) → Each ChoiceOk cs → firstFree (b .beds) (b .booked) None 0 cs ≡ g → takenBack (booking b g .own) (afterwards (booking b g)) ≡ restOf b

@@ -35,7 +35,7 @@ pub undone-is :
     → record { beds = beds; booked = booked; marks = marks; outcomes = outcomes } ≡ undone b
 undone-is b lent r o beds booked marks outcomes lent-is o-is r-is beds-is booked-is marks-is outcomes-is =
     let back : r ≡ takenBack (getD (b .outcomes) (length (b .outcomes) - 1) nothing) (record { beds = b .beds; booked = b .booked; outcomes = take (length (b .outcomes) - 1) (b .outcomes) }) =
-      r-is ∙ ap (λ p. takenBack p lent) o-is ∙ ap (takenBack (getD (b .outcomes) (length (b .outcomes) - 1) nothing)) lent-is in
+    r-is ∙ ap (λ p. takenBack p lent) o-is ∙ ap (takenBack (getD (b .outcomes) (length (b .outcomes) - 1) nothing)) lent-is in
     rw (beds-is, booked-is, marks-is, outcomes-is)
     (ap (λ (x : Rest). record { beds = x .beds; booked = x .booked; marks = take (length (b .marks) - 1) (b .marks); outcomes = x .outcomes }) back)
 

@@ -1,5 +1,6 @@
 pub mod Books
 pub mod Held
+pub mod Laws
 pub mod Nights
 pub mod Outcomes
 pub mod Plain

@@ -18,9 +18,7 @@ pub struct Book {
     booked: Vec<u32>,
     marks: Vec<Mark>,
     outcomes: Vec<Outcome>,
-    ghost reached: {
-        Reached (record { beds = vec-items beds; booked = vec-items booked; marks = map plainMark (vec-items marks); outcomes = map plainOutcome (vec-items outcomes) })
-    },
+    ghost reached: { Reached (record { beds = vec-items beds; booked = vec-items booked; marks = map plainMark (vec-items marks); outcomes = map plainOutcome (vec-items outcomes) }) },
     ghost room: { (65536 ≤ vec-cap marks) × (65536 ≤ vec-cap outcomes) },
 }
 

@@ -21,7 +21,12 @@ use crate::outcome::Outcome;
 use crate::standing::find_standing;
 
 // Books the first choice that is free.
-fn grant_first(beds: &[u32], booked: &mut [u32], choices: &Choices, replaces: Option<usize>) -> Option<Grant>
+fn grant_first(
+    beds: &[u32],
+    booked: &mut [u32],
+    choices: &Choices,
+    replaces: Option<usize>,
+) -> Option<Grant>
     requires { ⌜ length (now beds) ≡ 5856 ⌝ ∗ ⌜ length (now booked) ≡ 5856 ⌝ }
     ensures value { λ r. ⌜ mapped plainGrant r ≡ firstFree (now (beds .entry)) (now (booked .entry)) replaces 0 (plainChoices (now (choices .entry))) ⌝ }
     ensures after { λ r. ⌜ now (booked .exit) ≡ claimed (now (booked .entry)) (mapped plainGrant r) ⌝ }
@@ -51,7 +56,15 @@ fn cancel(booked: &mut [u32], marks: &[Mark], outcomes: &mut [Outcome], mark: &M
     Outcome::Freed(Some(found.place))
 }
 
-fn change(beds: &[u32], booked: &mut [u32], marks: &[Mark], outcomes: &mut [Outcome], own: Mark, mark: &Mark, choices: &Choices) -> Outcome
+fn change(
+    beds: &[u32],
+    booked: &mut [u32],
+    marks: &[Mark],
+    outcomes: &mut [Outcome],
+    own: Mark,
+    mark: &Mark,
+    choices: &Choices,
+) -> Outcome
     requires long_beds { ⌜ length (now beds) ≡ 5856 ⌝ }
     requires long { ⌜ length (now booked) ≡ 5856 ⌝ }
     requires paired { ⌜ length (now marks) ≡ length (now outcomes) ⌝ }
@@ -77,7 +90,13 @@ fn change(beds: &[u32], booked: &mut [u32], marks: &[Mark], outcomes: &mut [Outc
 }
 
 // Does an entry, behind those with the marks and outcomes that are lent, and hands back what came of it.
-pub fn carry_out(beds: &mut [u32], booked: &mut [u32], marks: &[Mark], outcomes: &mut [Outcome], entry: &Entry) -> Outcome
+pub fn carry_out(
+    beds: &mut [u32],
+    booked: &mut [u32],
+    marks: &[Mark],
+    outcomes: &mut [Outcome],
+    entry: &Entry,
+) -> Outcome
     requires long_beds { ⌜ length (now beds) ≡ 5856 ⌝ }
     requires long { ⌜ length (now booked) ≡ 5856 ⌝ }
     requires paired { ⌜ length (now marks) ≡ length (now outcomes) ⌝ }
@@ -95,7 +114,15 @@ pub fn carry_out(beds: &mut [u32], booked: &mut [u32], marks: &[Mark], outcomes:
             None => Outcome::Nothing,
         },
         Kind::Cancel { mark } => cancel(booked, marks, outcomes, mark),
-        Kind::Change { mark, choices } => change(beds, booked, marks, outcomes, entry.mark, mark, choices),
+        Kind::Change { mark, choices } => change(
+            beds,
+            booked,
+            marks,
+            outcomes,
+            entry.mark,
+            mark,
+            choices,
+        ),
         Kind::Beds { supply } => Outcome::Resized(supply.stay, resize_beds(beds, booked, supply)),
     }
 }

@@ -11,7 +11,12 @@ use crate::nights::first_night;
 use crate::outcome::Grant;
 
 // The first choice that has its beds free on each of its nights, for a booking or for a change of the one at `replaces`.
-pub fn first_free(beds: &[u32], booked: &[u32], choices: &Choices, replaces: Option<usize>) -> Option<Grant>
+pub fn first_free(
+    beds: &[u32],
+    booked: &[u32],
+    choices: &Choices,
+    replaces: Option<usize>,
+) -> Option<Grant>
     requires { ⌜ length (now beds) ≡ 5856 ⌝ ∗ ⌜ length (now booked) ≡ 5856 ⌝ }
     ensures { λ r. ⌜ mapped plainGrant r ≡ firstFree (now (beds .entry)) (now (booked .entry)) replaces 0 (plainChoices (now (choices .entry))) ⌝ }
 {

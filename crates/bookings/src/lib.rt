@@ -3,6 +3,7 @@ pub mod book;
 mod effects;
 pub mod entry;
 mod free;
+pub mod laws;
 mod nights;
 pub mod outcome;
 pub mod refusal;

@@ -60,6 +60,7 @@ pub fn take_back(beds: &mut [u32], booked: &mut [u32], outcomes: &mut [Outcome],
         }
         Outcome::Freed(Some(place)) => reinstate(booked, outcomes, *place),
         Outcome::Resized(stay, were) => restore_beds(beds, stay, were),
-        Outcome::Nothing | Outcome::Cancelled(_) | Outcome::Changed(_, _) | Outcome::Freed(None) => {}
+        Outcome::Nothing | Outcome::Cancelled(_) | Outcome::Changed(_, _) | Outcome::Freed(None) =>
+            {}
     }
 }

@@ -22,12 +22,14 @@ pub claim-beds-requires : need.claim-beds-requires
 claim-beds-requires c κs =
     let choice = c .in-Some .found .grant .choice in
     let from = first (plainStay (choice .stay)) in
-    let held = c .pre .covered _ _ (c .in-Some .ensures tt .there .1) in
-    (search needs, λ k h.
-        let left =
-        ap (λ l. getD l (from + k) 0) (c .in-rest-grant-first .ensures tt .after ∙ c .release-beds .ensures)
-        ∙ release-at (c .args .booked .now) (plainChoice choice) (c .pre .long) (stay-ok (choice .stay)) k h in
-        omega (arith, held k h, c .pre .few (from + k)))
+    let held = c .pre .covered _ _ (c .in-Some .ensures tt .there .1) in (
+      search needs,
+      λ k h.
+          let left =
+          ap (λ l. getD l (from + k) 0) (c .in-rest-grant-first .ensures tt .after ∙ c .release-beds .ensures)
+          ∙ release-at (c .args .booked .now) (plainChoice choice) (c .pre .long) (stay-ok (choice .stay)) k h in
+          omega (arith, held k h, c .pre .few (from + k)),
+    )
 
 pub returns-in-rest-grant-first : need.returns-in-rest-grant-first
 returns-in-rest-grant-first c =

@@ -31,6 +31,6 @@ returns c =
       there = (
         within,
         outcome-there (c .args .outcomes .now) (c .in-Some .place) (c .index-outcomes-place .result) within (c .index-outcomes-place .is)
-        ∙ held-is (plainOutcome (c .index-outcomes-place .result)) _ held,
+            ∙ held-is (plainOutcome (c .index-outcomes-place .result)) _ held,
       );
     }

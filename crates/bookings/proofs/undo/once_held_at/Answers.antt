@@ -16,6 +16,6 @@ returns-then-place-outcomes c =
     }
 
 pub returns : need.returns
-returns c = 
+returns c =
     let there = outcome-there (c .args .outcomes .now) (c .args .place) (c .index-outcomes-place .result) (c .if-place-outcomes .left) (c .index-outcomes-place .is) in
     record { value = c .once-held .ensures ∙ sym (ap onceHeldBy there); within = search needs }
