@@ -11,6 +11,9 @@ use crate::outcome::Outcome;
 mod reads;
 mod steps;
 
+// How many entries a replica can have.
+pub const CAPACITY: usize = 65536;
+
 // Beds and booked for each hut and night, and for each entry in the order of doing its mark and what came of it.
 #[derive(Drop)]
 pub struct Book {

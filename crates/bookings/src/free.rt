@@ -20,9 +20,8 @@ pub fn first_free(
     requires { ⌜ length (now beds) ≡ 5856 ⌝ ∗ ⌜ length (now booked) ≡ 5856 ⌝ }
     ensures { λ r. ⌜ mapped plainGrant r ≡ firstFree (now (beds .entry)) (now (booked .entry)) replaces 0 (plainChoices (now (choices .entry))) ⌝ }
 {
-    let count = choices.count();
-    'choices: for i in 0..count {
-        let choice = choices.at(i);
+    let listed = choices.as_slice();
+    'choices: for (i, choice) in listed.iter().enumerate() {
         let from = first_night(&choice.stay);
         for n in 0..choice.stay.nights as usize {
             if beds[from + n].saturating_sub(booked[from + n]) < choice.beds as u32 {
@@ -31,7 +30,7 @@ pub fn first_free(
         }
         return Some(Grant {
             number: i as u8,
-            choice,
+            choice: *choice,
             replaces,
         });
     }

@@ -10,6 +10,8 @@ use crate::entry::Supply;
 
 pub const NIGHTS: usize = 366;
 
+pub const PLACES: usize = 5856;
+
 // The place of a stay's first night.
 pub fn first_night(stay: &Stay) -> usize
     ensures { λ r. ⌜ r ≡ first (plainStay (now (stay .entry))) ⌝ ∗ ⌜ r + now (stay .entry) .nights ≤ 5856 ⌝ }

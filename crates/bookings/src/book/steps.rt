@@ -14,8 +14,10 @@ ghost use Rattle.bookings.specs.Reached.{Reached};
 ghost use Rattle.bookings.specs.Refusals.{numberOf};
 ghost use Rattle.bookings.specs.Views.{bookIn};
 use super::Book;
+use super::CAPACITY;
 use crate::effects::carry_out;
 use crate::entry::Entry;
+use crate::nights::PLACES;
 use crate::refusal::Refusal;
 use crate::undo::take_back;
 use std::alloc::AllocError;
@@ -25,7 +27,7 @@ use std::alloc::Global;
 fn row_of(heap: Global, n: u32) -> Result<Vec<u32>, AllocError>
     ensures { λ r. ⌜ made r (λ v. vec-items v ≡ row n) ⌝ }
 {
-    vec![in heap; n; 5856]
+    vec![in heap; n; PLACES]
 }
 
 impl Book {
@@ -35,8 +37,8 @@ impl Book {
     {
         let beds = row_of(heap, 20)?;
         let booked = row_of(heap, 0)?;
-        let marks = Vec::with_capacity(heap, 65536)?;
-        let outcomes = Vec::with_capacity(heap, 65536)?;
+        let marks = Vec::with_capacity(heap, CAPACITY)?;
+        let outcomes = Vec::with_capacity(heap, CAPACITY)?;
         Ok(Book {
             beds,
             booked,
@@ -51,7 +53,7 @@ impl Book {
             (λ _. (length (bookIn (now (self .entry)) .marks) < 65536) × (bookIn (now (self .exit)) ≡ does (plain (now («entry» .entry))) (bookIn (now (self .entry)))))
             (λ e. (numberOf e ≡ 8) × (65536 ≤ length (bookIn (now (self .entry)) .marks)) × (bookIn (now (self .exit)) ≡ bookIn (now (self .entry)))) ⌝ }
     {
-        if self.marks.len() >= 65536 {
+        if self.marks.len() >= CAPACITY {
             return Err(Refusal::Full);
         }
         let own = carry_out(

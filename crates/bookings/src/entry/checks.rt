@@ -2,7 +2,7 @@
 ghost use mathlib.Core.List.{[], _∷_, _++_};
 ghost use mathlib.Core.Path.{_≡_};
 ghost use Prim.Native.Nat.{_+_, _<_, _≤_};
-ghost use lib.ListN.{length, getD};
+ghost use lib.ListN.{length};
 ghost use Rattle.std.specs.Results.{Cases};
 ghost use Rattle.bookings.specs.Plain.{plainMark, plainStay, plainChoice, plainSupply, plainChoices, listed};
 ghost use Rattle.bookings.specs.Ranges.{MarkOk, StayOk, ChoiceOk, SupplyOk};
@@ -108,16 +108,10 @@ impl Choices {
         Ok(self)
     }
 
-    pub fn count(&self) -> usize
-        ensures { λ r. ⌜ r ≡ length (listed (now (self .entry))) ⌝ ∗ ⌜ r ≤ 4 ⌝ }
+    // The choices that count, in their order.
+    pub fn as_slice(&self) -> &[Choice]
+        ensures { λ r. ⌜ now r ≡ listed (now (self .entry)) ⌝ }
     {
-        self.count as usize
-    }
-
-    pub fn at(&self, i: usize) -> Choice
-        requires { ⌜ i < length (listed (now self)) ⌝ }
-        ensures { λ r. ⌜ r ≡ getD (listed (now (self .entry))) i r ⌝ }
-    {
-        self.all[i]
+        &self.all[0..self.count as usize]
     }
 }

@@ -17,8 +17,8 @@ use Rattle.bookings.proofs.Whole.{entered-is, same-book}
 use Rattle.bookings.proofs.book.Book.apply.Needs as need
 use Rattle.bookings.proofs.book.Book.apply.Needs.{After-push-reserved-2}
 
-pub returns-then-len-ge65536 : need.returns-then-len-ge65536
-returns-then-len-ge65536 c = (refl, simp length-map (search needs), refl)
+pub returns-then-len-ge-CAPACITY : need.returns-then-len-ge-CAPACITY
+returns-then-len-ge-CAPACITY c = (refl, simp length-map (search needs), refl)
 
 pub carry-out-own-requires : need.carry-out-own-requires
 carry-out-own-requires c κs =
