@@ -1,0 +1,4 @@
+pub mod Covering
+pub mod Marks
+pub mod Putting
+pub mod Views
