@@ -81,7 +81,7 @@ standing-holds os (Some q) s e =
     ap (λ i. getD os i nothing) (sym (both .0)) ∙ held-is (getD os q nothing) (s .grant) (sym (both .1))
 
 -- where a mark is found it stands
-same-is : (m n : PlainMark) → sameMark m n ≡ true → m ≡ n
+pub same-is : (m n : PlainMark) → sameMark m n ≡ true → m ≡ n
 same-is m n same =
     let both = and-parts (eqb (m .stamp) (n .stamp)) (eqb (m .hut) (n .hut)) same in
     let stamps = eqb-true (m .stamp) (n .stamp) (both .0) in

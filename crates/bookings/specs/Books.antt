@@ -34,6 +34,13 @@ firstFree beds booked over i (c ∷ cs) =
 abbrev pub sameMark : PlainMark → PlainMark → Bool
 sameMark a b = eqb (a .stamp) (b .stamp) && eqb (a .hut) (b .hut)
 
+-- the mark that a cancellation or a change names
+abbrev pub namedBy : PlainKind → Option PlainMark
+namedBy (book guest cs) = None
+namedBy (cancel m) = Some m
+namedBy (change m cs) = Some m
+namedBy (supply c) = None
+
 -- the place of the first of some marks that is m, where the first of them has the place i
 abbrev pub placeFrom : ℕ → PlainMark → List PlainMark → Option ℕ
 placeFrom i m [] = None

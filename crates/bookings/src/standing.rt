@@ -4,7 +4,7 @@ ghost use mathlib.Core.Path.{_≡_};
 ghost use lib.ListN.{length, getD};
 ghost use Prim.Native.Nat.{_<_};
 ghost use Rattle.std.specs.Options.{mapped, Cases as BySome};
-ghost use Rattle.bookings.specs.Books.{placeFrom, sameMark, standing};
+ghost use Rattle.bookings.specs.Books.{placeFrom, standing};
 ghost use Rattle.bookings.specs.Outcomes.{holds, nothing, plainGrant, plainOutcome};
 ghost use Rattle.bookings.specs.Plain.{plainMark};
 ghost use Rattle.bookings.specs.Views.{plainStanding};
@@ -12,19 +12,13 @@ use crate::entry::Mark;
 use crate::outcome::Outcome;
 use crate::outcome::Standing;
 
-fn is_same(a: &Mark, b: &Mark) -> bool
-    ensures { λ r. ⌜ r ≡ sameMark (plainMark (now (a .entry))) (plainMark (now (b .entry))) ⌝ }
-{
-    a.stamp == b.stamp && a.hut == b.hut
-}
-
 // The place of the first entry that has a mark.
 pub fn place_of(marks: &[Mark], mark: &Mark) -> Option<usize>
     ensures value { λ r. ⌜ r ≡ placeFrom 0 (plainMark (now (mark .entry))) (map plainMark (now (marks .entry))) ⌝ }
     ensures within { λ r. ⌜ BySome r (Unit {0}) (λ p. p < length (now (marks .entry))) ⌝ }
 {
     for (i, m) in marks.iter().enumerate() {
-        if is_same(mark, m) {
+        if mark.is_same(m) {
             return Some(i);
         }
     }

@@ -50,6 +50,6 @@ spot-high m (e ∷ es) (suc k) d sorted h is =
     let parts = and-parts (allBehind (e .mark) es) (ascends es) sorted in
     cond-both (before m (e .mark)) 0 (suc (spot m es)) (λ n. suc k < n)
     (λ first.
-        let there = before-through m (e .mark) (getD es k d .mark) first (behind-at (e .mark) es k d (parts .0) (omega arith)) in
-        absurd (let z : _≡_ {A = ℕ} 0 1 = cc in omega arith))
+    let there = before-through m (e .mark) (getD es k d .mark) first (behind-at (e .mark) es k d (parts .0) (omega arith)) in
+    absurd (let z : _≡_ {A = ℕ} 0 1 = cc in omega arith))
     (λ _. omega (arith, spot-high m es k d (parts .1) (omega arith) is))

@@ -6,7 +6,7 @@ use mathlib.Core.Path.{_≡_, refl, sym, _∙_, ap}
 use Prim.Native.Nat.{ℕ, zero, suc, _+_, _<_, _≤_}
 use native.Mathlib.Omega.{arith}
 use lib.Dec.{eqb, ltb}
-use lib.ListN.{length, getD}
+use lib.ListN.{length, getD, drop}
 use Rattle.std.proofs.shelf.Tests.{and-parts, and-from, or-parts, cond-both, cases-bool}
 use Rattle.std.specs.shelf.Lists.{inserted, removed}
 use Rattle.bookings.specs.Books.{sameMark}
@@ -53,8 +53,11 @@ has-none m [] new = refl
 has-none m (e ∷ es) new = let parts = or-parts (sameMark m (e .mark)) (has m es) new in rw (parts .0, has-none m es (parts .1)) refl
 
 -- a mark that is the same counts as one
-one-more : (m n : PlainMark) → sameMark m n ≡ true → _≡_ {A = ℕ} (cond (sameMark m n) 1 0) 1
+pub one-more : (m n : PlainMark) → sameMark m n ≡ true → _≡_ {A = ℕ} (cond (sameMark m n) 1 0) 1
 one-more m n same = rw same refl
+
+pub none-more : (m n : PlainMark) → sameMark m n ≡ false → _≡_ {A = ℕ} (cond (sameMark m n) 1 0) 0
+none-more m n other = rw other refl
 
 pub none-has : (m : PlainMark) (es : List PlainEntry) → times m es ≡ 0 → has m es ≡ false
 none-has m [] none = refl
@@ -111,3 +114,9 @@ without-ascends m (e ∷ es) sorted =
     let parts = and-parts (allBehind (e .mark) es) (ascends es) sorted in
     cond-both (sameMark m (e .mark)) (without m es) (e ∷ without m es) (λ l. ascends l ≡ true) (λ _. without-ascends m es (parts .1))
     (λ _. and-from _ _ (behind-without (e .mark) m es (parts .0)) (without-ascends m es (parts .1)))
+
+-- a mark that a list does not have, its end does not have
+pub has-drop : (m : PlainMark) (n : ℕ) (es : List PlainEntry) → has m es ≡ false → has m (drop n es) ≡ false
+has-drop m zero es new = new
+has-drop m (suc n) [] new = refl
+has-drop m (suc n) (e ∷ es) new = has-drop m n es (or-parts (sameMark m (e .mark)) (has m es) new .1)

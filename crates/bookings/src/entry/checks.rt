@@ -3,12 +3,15 @@ ghost use mathlib.Core.List.{[], _∷_, _++_};
 ghost use mathlib.Core.Path.{_≡_};
 ghost use Prim.Native.Nat.{_+_, _<_, _≤_};
 ghost use lib.ListN.{length};
+ghost use Rattle.std.specs.Options.{mapped};
 ghost use Rattle.std.specs.Results.{Cases};
-ghost use Rattle.bookings.specs.Plain.{plainMark, plainStay, plainChoice, plainSupply, plainChoices, listed};
+ghost use Rattle.bookings.specs.Books.{sameMark, namedBy};
+ghost use Rattle.bookings.specs.Plain.{plainMark, plainStay, plainChoice, plainSupply, plainKind, listed};
 ghost use Rattle.bookings.specs.Ranges.{MarkOk, StayOk, ChoiceOk, SupplyOk};
 ghost use Rattle.bookings.specs.Refusals.{numberOf};
 use super::Choice;
 use super::Choices;
+use super::Kind;
 use super::Mark;
 use super::Stay;
 use super::Supply;
@@ -27,6 +30,26 @@ impl Mark {
             stamp: stamp as u32,
             hut: hut as u8,
         })
+    }
+
+    pub fn is_same(&self, other: &Mark) -> bool
+        ensures { λ r. ⌜ r ≡ sameMark (plainMark (now (self .entry))) (plainMark (now (other .entry))) ⌝ }
+    {
+        self.stamp == other.stamp && self.hut == other.hut
+    }
+}
+
+impl Kind {
+    // The mark that a cancellation or a change names.
+    pub fn named(&self) -> Option<Mark>
+        ensures { λ r. ⌜ mapped plainMark r ≡ namedBy (plainKind (now (self .entry))) ⌝ }
+    {
+        match self {
+            Kind::Book { .. } => None,
+            Kind::Cancel { mark } => Some(*mark),
+            Kind::Change { mark, .. } => Some(*mark),
+            Kind::Beds { .. } => None,
+        }
     }
 }
 
