@@ -1,0 +1,3 @@
+// A replica: its log, and a book that is always the one that the log makes.
+pub mod head;
+pub mod replica;
