@@ -1,2 +1,4 @@
 pub mod Digits
+pub mod FoursOn
+pub mod NumbersOn
 pub mod WordBounds

@@ -1,3 +1,6 @@
+pub mod Commands
 pub mod Digits
+pub mod Numbers
+pub mod Requests
 pub mod Verbs
 pub mod Words

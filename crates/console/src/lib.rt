@@ -1,4 +1,8 @@
 // The programs' text: lines that ask for something, and lines that answer.
+pub mod command;
+mod forms;
 mod number;
-mod verb;
+pub mod numbers;
+pub mod request;
+pub mod verb;
 mod words;
