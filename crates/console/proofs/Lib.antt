@@ -1,4 +1,5 @@
 pub mod Digits
 pub mod FoursOn
 pub mod NumbersOn
+pub mod SaidBy
 pub mod WordBounds

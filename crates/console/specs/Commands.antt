@@ -92,3 +92,28 @@ saidBy Line ns = lineOf ns
 abbrev pub saidIf : Option Command → Option Said
 saidIf None = None
 saidIf (Some c) = Some (said c)
+
+-- what a line of that verb says, or which form it should have had
+abbrev pub withNumbers : Verb → Option (List ℕ) → Option Said
+withNumbers v None = None
+withNumbers v (Some ns) = saidBy v ns
+
+abbrev pub inForm : Verb → Option Said → Result Said Expected
+inForm v None = Err (expected.Form v)
+inForm v (Some s) = Ok s
+
+abbrev pub byVerb : Option Verb → List (List ℕ) → Result Said Expected
+byVerb None ws = Err expected.Command
+byVerb (Some v) ws = inForm v (withNumbers v (numbersOf 17 ws))
+
+-- a line without words says nothing, nor does one whose first word begins with '#'
+abbrev pub byWords : List (List ℕ) → Result Said Expected
+byWords [] = Ok pass
+byWords (w ∷ ws) = cond (eqb (getD w 0 0) 35) (Ok pass) (byVerb (verbOf w) ws)
+
+abbrev pub parsed : List ℕ → Result Said Expected
+parsed line = byWords (words line)
+
+abbrev pub told : Result Command Expected → Result Said Expected
+told (Ok c) = Ok (said c)
+told (Err e) = Err e

@@ -1,6 +1,7 @@
 // The programs' text: lines that ask for something, and lines that answer.
 pub mod command;
 mod forms;
+pub mod line;
 mod number;
 pub mod numbers;
 pub mod request;

@@ -17,7 +17,7 @@ pub enum Verb {
 }
 
 // The verb that a word names.
-pub fn read_verb(word: &[u8]) -> Option<Verb>
+pub(crate) fn read_verb(word: &[u8]) -> Option<Verb>
     ensures { λ r. ⌜ r ≡ verbOf (now (word .entry)) ⌝ }
 {
     if is(word, b"huts") {
