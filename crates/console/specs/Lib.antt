@@ -1,3 +1,4 @@
+pub mod Checks
 pub mod Commands
 pub mod Digits
 pub mod Numbers
