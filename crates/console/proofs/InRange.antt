@@ -32,10 +32,10 @@ pub checked-on :
     → (plainChoices after ≡ map askedChoice (take (i + 1) all)) × Each ChoiceOk (map askedChoice (take (i + 1) all))
 checked-on all i d before after choice within after-is fine choice-is same each =
     let more : map askedChoice (take (i + 1) all) ≡ map askedChoice (take i all) ++ askedChoice (getD all i d) ∷ [] =
-        rw (take-more all i d within) (map-append askedChoice (take i all) (getD all i d ∷ []))
+    rw (take-more all i d within) (map-append askedChoice (take i all) (getD all i d ∷ []))
     in
     let one : plainChoices after ≡ plainChoices before ++ plainChoice choice ∷ [] =
-        ap (map plainChoice) after-is ∙ map-append plainChoice (listed before) (choice ∷ [])
+    ap (map plainChoice) after-is ∙ map-append plainChoice (listed before) (choice ∷ [])
     in
     (cc, rw more (each-push ChoiceOk (map askedChoice (take i all)) (askedChoice (getD all i d)) each fine))
 

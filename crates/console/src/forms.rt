@@ -54,7 +54,10 @@ fn book(numbers: &[u64]) -> Option<Command>
     let Some(choices) = RawChoices::read(choices) else {
         return None;
     };
-    let request = Request::Book { guest: *guest, choices };
+    let request = Request::Book {
+        guest: *guest,
+        choices,
+    };
     Some(Command::Make { request })
 }
 
@@ -64,7 +67,10 @@ fn cancel(numbers: &[u64]) -> Option<Command>
     let [stamp, hut] = numbers else {
         return None;
     };
-    let request = Request::Cancel { stamp: *stamp, hut: *hut };
+    let request = Request::Cancel {
+        stamp: *stamp,
+        hut: *hut,
+    };
     Some(Command::Make { request })
 }
 

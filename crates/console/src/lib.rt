@@ -1,4 +1,5 @@
 // The programs' text: lines that ask for something, and lines that answer.
+pub mod answer;
 pub mod command;
 mod forms;
 pub mod line;

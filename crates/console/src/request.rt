@@ -26,8 +26,20 @@ pub struct RawChoices {
 
 #[derive(Clone, Copy)]
 pub enum Request {
-    Book { guest: u64, choices: RawChoices },
-    Cancel { stamp: u64, hut: u64 },
-    Change { stamp: u64, hut: u64, choices: RawChoices },
-    Beds { supply: RawChoice },
+    Book {
+        guest: u64,
+        choices: RawChoices,
+    },
+    Cancel {
+        stamp: u64,
+        hut: u64,
+    },
+    Change {
+        stamp: u64,
+        hut: u64,
+        choices: RawChoices,
+    },
+    Beds {
+        supply: RawChoice,
+    },
 }

@@ -70,13 +70,20 @@ impl Request {
                     return Err(Refusal::OutOfRange);
                 }
                 let choices = choices.wanted()?;
-                Ok(Kind::Book { guest: *guest as u32, choices })
+                Ok(Kind::Book {
+                    guest: *guest as u32,
+                    choices,
+                })
             }
             Request::Cancel { stamp, hut } => {
                 let mark = mark(*stamp, *hut)?;
                 Ok(Kind::Cancel { mark })
             }
-            Request::Change { stamp, hut, choices } => {
+            Request::Change {
+                stamp,
+                hut,
+                choices,
+            } => {
                 let mark = mark(*stamp, *hut)?;
                 let choices = choices.wanted()?;
                 Ok(Kind::Change { mark, choices })

@@ -18,12 +18,12 @@ returns-in-rest-read-number c =
 
 pub loop-word-again : need.loop-word-again
 loop-word-again c = (
-    sym (numbers-on (17 - c .loop-word .count) (17 - (c .loop-word .count + 1)) (c .in-Some-read-number .n) _ _ _ _ _ (omega arith)
-    (c .in-Some .ensures tt .0) (c .in-Some-read-number .ensures tt)
-    (take-more-set (c .loop-word .all) (c .loop-word .count) (c .in-Some-read-number .n) (omega arith))) ∙ c .loop-word .inv .0,
-    omega arith,
-    search (needs, length-set),
-  )
+  sym (numbers-on (17 - c .loop-word .count) (17 - (c .loop-word .count + 1)) (c .in-Some-read-number .n) _ _ _ _ _ (omega arith)
+      (c .in-Some .ensures tt .0) (c .in-Some-read-number .ensures tt)
+      (take-more-set (c .loop-word .all) (c .loop-word .count) (c .in-Some-read-number .n) (omega arith))) ∙ c .loop-word .inv .0,
+  omega arith,
+  search (needs, length-set),
+)
 
 pub returns : need.returns
 returns c = sym (c .loop-word .inv .0) ∙ numbers-end (17 - c .loop-word .count) _ _ (c .in-rest .ensures tt)

@@ -10,9 +10,9 @@ returns-then-numbers-ne0 c = search (needs, choices-refused)
 
 pub loop-i-again : need.loop-i-again
 loop-i-again c = (
-    choice-written (c .loop-i .all) (c .args .numbers .now) (c .loop-i .i) _ (omega arith) (omega arith) refl (c .loop-i .inv .0),
-    search (needs, length-set),
-  )
+  choice-written (c .loop-i .all) (c .args .numbers .now) (c .loop-i .i) _ (omega arith) (omega arith) refl (c .loop-i .inv .0),
+  search (needs, length-set),
+)
 
 pub returns : need.returns
 returns c = search (needs, choices-read, fours-end)

@@ -10,10 +10,10 @@ pub returns-in-Break-wanted : need.returns-in-Break-wanted
 returns-in-Break-wanted c =
     let p = err-from-errBy (c .from-residual .result) (c .from-residual .ensures .1) in
     rw (p .1, p .2) (
-        c .in-Break-wanted .ensures tt .0,
-        λ fine.
-        c .in-Break-wanted .ensures tt .1
-        (each-at ChoiceOk askedChoice (c .args .self .now .all) (c .args .self .now .count) (c .loop-i .i) _ (omega arith) (omega arith) (fine .1)),
+      c .in-Break-wanted .ensures tt .0,
+      λ fine.
+          c .in-Break-wanted .ensures tt .1
+          (each-at ChoiceOk askedChoice (c .args .self .now .all) (c .args .self .now .count) (c .loop-i .i) _ (omega arith) (omega arith) (fine .1)),
     )
 
 pub returns-in-Break-choices : need.returns-in-Break-choices
