@@ -28,5 +28,5 @@ change-says ns rest o some rest-is o-is = rw (le-ltb (length ns) 2 some, o-is, r
 -- a line of a known verb, whose numbers have its form
 pub line-says :
     (line word rest : List ℕ) (v : Verb) (s : Said) → words line ≡ word ∷ words rest → (getD word 0 0 ≡ 35 → ⊥) → Some v ≡ verbOf word
-    → Some s ≡ withNumbers v (numbersOf 17 (words rest)) → Ok s ≡ parsed line
+    → Some s ≡ withNumbers v (numbersOf 18 (words rest)) → Ok s ≡ parsed line
 line-says line word rest v s line-is plain v-is s-is = rw (line-is, ne-eqb (getD word 0 0) 35 plain, sym v-is, sym s-is) refl

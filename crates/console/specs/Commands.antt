@@ -104,7 +104,7 @@ inForm v (Some s) = Ok s
 
 abbrev pub byVerb : Option Verb → List (List ℕ) → Result Said Expected
 byVerb None ws = Err expected.Command
-byVerb (Some v) ws = inForm v (withNumbers v (numbersOf 17 ws))
+byVerb (Some v) ws = inForm v (withNumbers v (numbersOf 18 ws))
 
 -- a line without words says nothing, nor does one whose first word begins with '#'
 abbrev pub byWords : List (List ℕ) → Result Said Expected

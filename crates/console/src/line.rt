@@ -31,7 +31,7 @@ pub fn read_command(line: &[u8]) -> Result<Command, Expected>
 }
 
 fn read_form(verb: Verb, rest: &[u8]) -> Option<Command>
-    ensures { λ r. ⌜ saidIf r ≡ withNumbers verb (numbersOf 17 (words (now (rest .entry)))) ⌝ }
+    ensures { λ r. ⌜ saidIf r ≡ withNumbers verb (numbersOf 18 (words (now (rest .entry)))) ⌝ }
 {
     let Some(numbers) = Numbers::read(rest) else {
         return None;

@@ -1,4 +1,4 @@
-// The numbers of a line, which no command has more than 17 of.
+// The numbers of a line: 18 at most, as a change with four choices has.
 ghost use mathlib.Core.Path.{_≡_};
 ghost use Prim.Native.Nat.{_≤_};
 ghost use lib.ListN.{length, take};
@@ -13,23 +13,23 @@ use crate::words::first_word;
 #[derive(Clone, Copy)]
 pub struct Numbers {
     count: usize,
-    all: [u64; 17],
-    ghost few: { count ≤ 17 },
-    ghost seventeen: { length all ≡ 17 },
+    all: [u64; 18],
+    ghost few: { count ≤ 18 },
+    ghost full: { length all ≡ 18 },
 }
 
 impl Numbers {
-    // The numbers that the words of a text write, unless a word is no number or there are more than 17.
+    // The numbers that the words of a text write, unless a word is no number or there are more than 18.
     pub(crate) fn read(text: &[u8]) -> Option<Numbers>
         ensures { λ r. ⌜ BySome r
-            (numbersOf 17 (words (now (text .entry))) ≡ None)
-            (λ ns. numbersOf 17 (words (now (text .entry))) ≡ Some (take (ns .count) (ns .all))) ⌝ }
+            (numbersOf 18 (words (now (text .entry))) ≡ None)
+            (λ ns. numbersOf 18 (words (now (text .entry))) ≡ Some (take (ns .count) (ns .all))) ⌝ }
     {
-        let mut all = [0u64; 17];
+        let mut all = [0u64; 18];
         let mut count = 0;
         let mut left = text;
         while let Some((word, rest)) = first_word(left) {
-            if count == 17 {
+            if count == 18 {
                 return None;
             }
             let Some(n) = read_number(word) else {
