@@ -3,6 +3,8 @@ use mathlib.Core.List.{List, _++_}
 use Prim.Native.Nat.{ℕ}
 use lib.Chars.{codes}
 use Rattle.std.specs.Written.{decimal}
+use Rattle.bookings.specs.declared.entry.Kind.{Kind}
+use Rattle.bookings.specs.declared.entry.Kind.the-variants as entries
 use Rattle.bookings.specs.declared.refusal.Refusal.{Refusal}
 use Rattle.bookings.specs.declared.refusal.Refusal.the-variants as refusals
 use Rattle.bookings.specs.Refusals.{numberOf}
@@ -28,6 +30,12 @@ kindText kinds.Book = codes "book"
 kindText kinds.Cancel = codes "cancel"
 kindText kinds.Change = codes "change"
 kindText kinds.Beds = codes "beds"
+
+abbrev pub kindNameOf : Kind → KindName
+kindNameOf (entries.Book g cs) = kinds.Book
+kindNameOf (entries.Cancel m) = kinds.Cancel
+kindNameOf (entries.Change m cs) = kinds.Change
+kindNameOf (entries.Beds s) = kinds.Beds
 
 abbrev pub reasonText : Refusal → List ℕ
 reasonText refusals.Damaged = codes "the letter is damaged"

@@ -71,3 +71,7 @@ abbrev pub Spaces-do-not-matter : Type 0
 Spaces-do-not-matter =
     ((a b : List ℕ) → parsed (a ++ space ∷ space ∷ b) ≡ parsed (a ++ space ∷ b)) × ((a : List ℕ) → parsed (space ∷ a) ≡ parsed a)
     × ((a : List ℕ) → parsed (a ++ space ∷ []) ≡ parsed a)
+
+-- 35 is '#'
+abbrev pub Comments-say-nothing : Type 0
+Comments-say-nothing = (text : List ℕ) → parsed (35 ∷ text) ≡ Ok pass

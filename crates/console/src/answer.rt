@@ -2,6 +2,7 @@
 use crate::command::Expected;
 use bookings::refusal::Refusal;
 
+mod kinds;
 mod shows;
 
 #[derive(Clone, Copy)]

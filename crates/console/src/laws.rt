@@ -1,5 +1,5 @@
 // Laws of reading lines: each function's contract is one.
-ghost use Rattle.console.specs.Lines.{Lines-read-back, Spaces-do-not-matter};
+ghost use Rattle.console.specs.Lines.{Lines-read-back, Spaces-do-not-matter, Comments-say-nothing};
 
 // A command that is written down is read back as that command.
 pub fn lines_read_back() -> u8
@@ -11,6 +11,13 @@ pub fn lines_read_back() -> u8
 // How many spaces stand between words, before them or behind them does not matter.
 pub fn spaces_do_not_matter() -> u8
     ensures { λ _. ⌜ Spaces-do-not-matter ⌝ }
+{
+    0
+}
+
+// A line that begins with '#' asks for nothing, whatever stands behind it.
+pub fn comments_say_nothing() -> u8
+    ensures { λ _. ⌜ Comments-say-nothing ⌝ }
 {
     0
 }

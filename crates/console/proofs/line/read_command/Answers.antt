@@ -1,6 +1,10 @@
-use Rattle.console.proofs.SaidBy.{line-says}
+use mathlib.Core.Path.{_∙_, ap}
+use Rattle.console.specs.Commands.{parsed}
+use Rattle.console.proofs.ReadBack.{lines-read-back}
 use Rattle.console.proofs.line.read_command.Needs as need
 
-pub returns-in-Some-read-form : need.returns-in-Some-read-form
-returns-in-Some-read-form c =
-    line-says (c .args .line .now) (c .in-Some .word .now) (c .in-Some .rest .now) _ _ (c .in-Some .ensures tt .0) (c .if-word-eq35 .left) (c .in-Some-read-verb .ensures tt) (c .in-Some-read-form .ensures tt)
+pub returns : need.returns
+returns c = record {
+  value = c .parse .ensures;
+  written = λ s fine line-is. c .parse .ensures ∙ ap parsed line-is ∙ lines-read-back s fine;
+}
