@@ -1,13 +1,13 @@
 -- How the numbers of a line go on by one word, at the terms of the loop.
 use mathlib.Core.List.{List, [], _∷_, _++_, append-assoc}
-use mathlib.Core.Path.{_≡_, refl, sym, _∙_, ap}
+use mathlib.Core.Path.{_≡_, refl, sym, ap}
 use Prim.Native.Nat.{ℕ, zero, suc, _+_}
 use native.Mathlib.Numerals.{add-one}
 use Rattle.std.proofs.shelf.Lists.{append-nil}
 use Rattle.std.specs.declared.option.Option.{Option}
 use Rattle.std.specs.declared.option.Option.the-variants.{None, Some}
 use Rattle.console.specs.Digits.{numberOf}
-use Rattle.console.specs.Numbers.{onto, before, numbersOf}
+use Rattle.console.specs.Numbers.{onto, numbersOf}
 
 onto-twice : (xs ys : List ℕ) (o : Option (List ℕ)) → onto xs (onto ys o) ≡ onto (xs ++ ys) o
 onto-twice xs ys None = refl

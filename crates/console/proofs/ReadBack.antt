@@ -1,14 +1,12 @@
 -- A command that is written down is read back as that command.
-use mathlib.Core.Bool.{Bool, true, false, cond}
 use mathlib.Core.List.{List, [], _∷_, _++_, map, append-assoc}
 use mathlib.Core.Path.{_≡_, refl, sym, _∙_, ap}
-use Prim.Native.Nat.{ℕ, zero, suc, _+_, _*_, _%_, _<_, _≤_}
+use Prim.Native.Nat.{ℕ, zero, suc, _+_, _*_, _≤_}
 use native.Mathlib.Omega.{arith}
-use borrow.Author.Tests.{eq-eqb, ne-eqb, lt-ltb, le-ltb}
-use lib.ListN.{length, getD}
+use borrow.Author.Tests.{ne-eqb, le-ltb}
+use lib.ListN.{length}
 use Rattle.std.proofs.shelf.Lists.{append-nil}
-use Rattle.std.specs.declared.option.Option.{Option}
-use Rattle.std.specs.declared.option.Option.the-variants.{None, Some}
+use Rattle.std.specs.declared.option.Option.the-variants.{Some}
 use Rattle.std.specs.declared.result.Result.the-variants.{Ok}
 use Rattle.std.specs.Written.{decimal}
 use Rattle.bookings.specs.Plain.{PlainChoice, PlainKind, book, cancel, change, supply}
@@ -16,11 +14,11 @@ use Rattle.bookings.specs.Ranges.{Each}
 use Rattle.console.specs.declared.verb.Verb.{Verb}
 use Rattle.console.specs.declared.verb.Verb.the-variants.{Huts, At, Book, Cancel, Change, Beds, Show, Got, Line}
 use Rattle.console.specs.Commands.{Said, pass, huts, at, make, showNight, show, got, log, saidBy, inForm, withNumbers, byWords, parsed}
-use Rattle.console.specs.Lines.{spaced, written, choiceNumbers, requestLine, lineOf, TenDigits, RequestSayable, Sayable, Lines-read-back}
+use Rattle.console.specs.Lines.{spaced, written, choiceNumbers, requestLine, lineOf, TenDigits, RequestSayable, Sayable}
 use Rattle.console.specs.Numbers.{numbersOf}
 use Rattle.console.specs.Requests.{fours, choicesOf}
 use Rattle.console.specs.Verbs.{nameOf}
-use Rattle.console.specs.Words.{space, ended, wordsAfter, words}
+use Rattle.console.specs.Words.{space, wordsAfter, words}
 use Rattle.console.proofs.DecimalWords.{Word, decimal-word, decimal-number}
 use Rattle.console.proofs.FoursOn.{choices-read}
 use Rattle.console.proofs.SaidBy.{book-says, change-says}
@@ -107,7 +105,7 @@ request-reads-back (change m cs) h =
     (sym (change-says (m .stamp ∷ m .hut ∷ choiceNumbers cs) (choiceNumbers cs) (Some cs) (omega arith) refl (sym (choices-of-numbers cs (h .1)))))
 request-reads-back (supply c) h = written-says Beds (choiceNumbers (c ∷ [])) (omega arith) h
 
-pub lines-read-back : Lines-read-back
+pub lines-read-back : (s : Said) → Sayable s → parsed (lineOf s) ≡ Ok s
 lines-read-back pass h = refl
 lines-read-back (huts hs) h =
     written-says Huts hs (omega arith) (h .0) ∙ rw (ne-eqb (length hs) 0 (omega arith), le-ltb 4 (length hs) (h .2)) refl

@@ -1,14 +1,14 @@
 -- Where a text's words begin and end.
-use mathlib.Core.Bool.{Bool, true, false, cond}
+use mathlib.Core.Bool.{Bool, true, false}
 use mathlib.Core.List.{List, [], _∷_, _++_, append-assoc}
 use mathlib.Core.Path.{_≡_, refl, sym, _∙_, ap}
-use Prim.Native.Nat.{ℕ, zero, suc, _+_, _-_, _<_, _≤_}
+use Prim.Native.Nat.{ℕ, suc, _+_, _-_, _<_, _≤_}
 use native.Mathlib.Omega.{arith}
-use borrow.Author.Tests.{eq-eqb, ne-eqb}
+use borrow.Author.Tests.{ne-eqb}
 use lib.Dec.{eqb}
 use lib.ListN.{length, getD, take, drop}
 use Rattle.std.proofs.shelf.Lists.{append-nil, nil-from-length, drop-more, drop-all}
-use Rattle.console.specs.Words.{space, ended, wordsAfter, words, spaces, span}
+use Rattle.console.specs.Words.{space, wordsAfter, words, spaces, span}
 
 -- at the terms of the loops
 pub spaces-stop : (xs : List ℕ) (i : ℕ) → i < length xs → (getD xs i 0 ≡ 32 → ⊥) → spaces (drop i xs) ≡ 0

@@ -5,7 +5,7 @@ use Prim.Native.Nat.{ℕ, _<_, _≤_}
 use lib.ListN.{length}
 use Rattle.std.specs.Written.{decimal}
 use Rattle.std.specs.declared.result.Result.the-variants.{Ok}
-use Rattle.bookings.specs.Plain.{PlainMark, PlainChoice, PlainKind, book, cancel, change, supply}
+use Rattle.bookings.specs.Plain.{PlainChoice, PlainKind, book, cancel, change, supply}
 use Rattle.bookings.specs.Ranges.{Each}
 use Rattle.console.specs.declared.verb.Verb.{Verb}
 use Rattle.console.specs.declared.verb.Verb.the-variants.{Huts, At, Book, Cancel, Change, Beds, Show, Got, Line}
@@ -61,10 +61,6 @@ Sayable (showNight h n) = TenDigits h × TenDigits n
 Sayable show = Unit {0}
 Sayable (got m) = TenDigits (m .stamp) × TenDigits (m .hut)
 Sayable log = Unit {0}
-
--- the line that a command is written as says that command
-abbrev pub Lines-read-back : Type 0
-Lines-read-back = (s : Said) → Sayable s → parsed (lineOf s) ≡ Ok s
 
 -- one space more, between words, in front or behind, changes nothing
 abbrev pub Spaces-do-not-matter : Type 0

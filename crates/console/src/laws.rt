@@ -1,12 +1,5 @@
 // Laws of reading lines: each function's contract is one.
-ghost use Rattle.console.specs.Lines.{Lines-read-back, Spaces-do-not-matter, Comments-say-nothing};
-
-// A command that is written down is read back as that command.
-pub fn lines_read_back() -> u8
-    ensures { λ _. ⌜ Lines-read-back ⌝ }
-{
-    0
-}
+ghost use Rattle.console.specs.Lines.{Spaces-do-not-matter, Comments-say-nothing};
 
 // How many spaces stand between words, before them or behind them does not matter.
 pub fn spaces_do_not_matter() -> u8

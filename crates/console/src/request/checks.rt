@@ -1,5 +1,4 @@
 // The kind of entry that a request asks for, if all its numbers are in range.
-ghost use mathlib.Core.List.{map};
 ghost use mathlib.Core.Path.{_≡_};
 ghost use Rattle.std.specs.Results.{Cases};
 ghost use Rattle.bookings.specs.Plain.{plainMark, plainChoice, plainSupply, plainChoices};

@@ -1,7 +1,6 @@
 use mathlib.Core.Path.{_∙_, sym}
 use Prim.Native.Nat.{_-_}
 use native.Mathlib.Omega.{arith}
-use lib.ListN.{getD}
 use Rattle.console.proofs.Digits.{digits-bad, digits-on, digits-end, number-from-digits, ten-times-more}
 use Rattle.console.proofs.number.read_number.Needs as need
 

@@ -1,10 +1,8 @@
 use borrow.Author.Needs.{needs}
-use mathlib.Core.Path.{ap, _≡_, sym}
 use Prim.Native.Nat.{_<_, _-_, _≤_}
 use native.Mathlib.Omega.{arith}
-use lib.ListN.{length, length-take, length-drop, take, drop}
+use lib.ListN.{length, length-take, length-drop}
 use Rattle.std.proofs.shelf.Lists.{take-rest}
-use Rattle.console.specs.Words.{spaces}
 use Rattle.console.proofs.WordBounds.{no-word, first-of-line}
 use Rattle.console.proofs.words.first_word.Needs as need
 
