@@ -1,0 +1,9 @@
+pub mod DecimalWords
+pub mod Digits
+pub mod FoursOn
+pub mod InRange
+pub mod NumbersOn
+pub mod ReadBack
+pub mod SaidBy
+pub mod SpacesMore
+pub mod WordBounds

@@ -1,0 +1,9 @@
+pub mod Answers
+pub mod Checks
+pub mod Commands
+pub mod Digits
+pub mod Lines
+pub mod Numbers
+pub mod Requests
+pub mod Verbs
+pub mod Words

@@ -1,0 +1,78 @@
+// What a program answers: one line each.
+use crate::command::Expected;
+use bookings::refusal::Refusal;
+
+mod kinds;
+mod shows;
+
+#[derive(Clone, Copy)]
+pub enum Answer {
+    // An entry was made, with that mark.
+    Made {
+        stamp: u32,
+        hut: u8,
+    },
+    Refused {
+        why: Refusal,
+    },
+    // The beds of a hut on a night, and how many are booked.
+    Night {
+        hut: u8,
+        night: u16,
+        beds: u32,
+        booked: u32,
+    },
+    EndOfBook,
+    // An entry of the log.
+    Logged {
+        place: usize,
+        stamp: u32,
+        hut: u8,
+        standing: Standing,
+        kind: KindName,
+    },
+    EndOfLog,
+    // What the entry with that mark has got.
+    Got {
+        stamp: u32,
+        hut: u8,
+        standing: Standing,
+        got: Got,
+    },
+    Error {
+        expected: Expected,
+    },
+}
+
+#[derive(Clone, Copy)]
+pub enum Standing {
+    Tentative,
+    Committed,
+}
+
+#[derive(Clone, Copy)]
+pub enum KindName {
+    Book,
+    Cancel,
+    Change,
+    Beds,
+}
+
+#[derive(Clone, Copy)]
+pub enum Got {
+    // A choice, counted from 1, with its first and its last night.
+    Choice {
+        number: u8,
+        hut: u8,
+        first: u16,
+        last: u16,
+        beds: u8,
+    },
+    Nothing,
+    Cancelled,
+    ChangedBy {
+        stamp: u32,
+        hut: u8,
+    },
+    NotABooking,
+}

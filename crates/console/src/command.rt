@@ -1,0 +1,30 @@
+// What a line asks for.
+use crate::numbers::Numbers;
+use crate::request::Request;
+use crate::verb::Verb;
+
+#[derive(Clone, Copy)]
+pub enum Command {
+    // An empty line, or a comment.
+    Pass,
+    // The huts of a rehearsal.
+    Huts { huts: Numbers },
+    // The lines that follow are for this hut.
+    At { hut: u64 },
+    // A new entry.
+    Make { request: Request },
+    // The book at one night, and all of it.
+    ShowNight { hut: u64, night: u64 },
+    Show,
+    // What an entry has got.
+    Got { stamp: u64, hut: u64 },
+    // The log.
+    Line,
+}
+
+// What a line should have been.
+#[derive(Clone, Copy)]
+pub enum Expected {
+    Command,
+    Form { verb: Verb },
+}
