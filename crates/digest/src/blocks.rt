@@ -51,7 +51,8 @@ fn last_blocks(state: [u32; 8], rest: &[u8], bits: u64) -> [u32; 8]
     ensures { λ r. ⌜ r ≡ absorbed state (now (rest .entry) ++ padding (length (now (rest .entry))) bits) ⌝ }
 {
     let block = end_marked(rest);
-    if rest.len() < 56 {
+    let fits = rest.len() < 56;
+    if fits {
         compress(state, &with_length(block, bits))
     } else {
         compress(compress(state, &block), &with_length([0; 64], bits))

@@ -1,11 +1,9 @@
-use mathlib.Core.Path.{_≡_}
 use mathlib.Core.Logic.{_≢_}
 use native.Mathlib.Omega.{arith}
 use Prim.Native.Nat.{_<_}
 use lib.ListN.{length, length-set}
 use lib.Seq.{getD-set-same, getD-set-other}
 use borrow.Author.Count.{below-more}
-use Rattle.digest.specs.Sha256.{sum32}
 use Rattle.digest.proofs.RoundByRound.{sums-is}
 use Rattle.digest.proofs.rounds.added.Needs as need
 

@@ -1,7 +1,5 @@
 use mathlib.Core.Path.{_≡_, sym, ap, _∙_}
 use native.Mathlib.Omega.{arith}
-use Prim.Native.Nat.{_*_}
-use lib.ListN.{length, take}
 use lib.Seq.{take-all}
 use Rattle.std.specs.Joined.{joined}
 use Rattle.digest.specs.Sha256.{bytes4}

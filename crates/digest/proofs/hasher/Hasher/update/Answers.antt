@@ -1,7 +1,6 @@
-use mathlib.Core.Path.{_≡_, sym, subst}
+use mathlib.Core.Path.{sym, subst}
 use mathlib.Core.List.{_++_}
 use native.Mathlib.Omega.{arith}
-use lib.ListN.{length}
 use Rattle.digest.specs.Progress.{Cut}
 use Rattle.digest.specs.Sha256.{initial}
 use Rattle.digest.proofs.BlockByBlock.{cut-push, cut-join}
