@@ -35,11 +35,12 @@ absorbed-blocks (suc n) s whole rest h =
     let le : 64 ≤ length whole = omega arith in
     let long : 64 ≤ length (whole ++ rest) = simp length-append (omega arith) in
     let left : length (drop 64 whole) ≡ 64 * n = simp length-drop (omega arith) in
-    absorbed-more s (whole ++ rest) long
-    ∙ ap (λ l. absorbed (compressOf s l) (drop 64 (whole ++ rest))) (take-append-le 64 whole rest le)
-    ∙ ap (absorbed (compressOf s (take 64 whole))) (drop-append-le 64 whole rest le)
-    ∙ absorbed-blocks n (compressOf s (take 64 whole)) (drop 64 whole) rest left
-    ∙ ap (λ x. absorbed x rest) (sym (absorbed-more s whole le))
+    let all = absorbed-more s (whole ++ rest) long in
+    let part = absorbed-more s whole le in
+    let front = take-append-le 64 whole rest le in
+    let back = drop-append-le 64 whole rest le in
+    let on = absorbed-blocks n (compressOf s (take 64 whole)) (drop 64 whole) rest left in
+    cc
 
 pub absorbed-front : (s whole rest : List ℕ) → length whole % 64 ≡ 0 → absorbed s (whole ++ rest) ≡ absorbed (absorbed s whole) rest
 absorbed-front s whole rest h = absorbed-blocks (length whole / 64) s whole rest (omega arith)

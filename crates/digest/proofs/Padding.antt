@@ -13,39 +13,21 @@ use Rattle.digest.specs.Sha256.{bytes4, compressOf, absorbed, initial, padding
 use Rattle.digest.specs.Laws.{Padding-fits}
 use Rattle.digest.proofs.BlockByBlock.{absorbed-last, absorbed-front}
 
-bytes8-low : (x : ℕ) → bytes8 (x % 2 ^ 64) ≡ bytes8 x
-unfolding bytes8
-bytes8-low x =
-    let e7 : x % 2 ^ 64 / 2 ^ 56 % 256 ≡ x / 2 ^ 56 % 256 = omega arith in
-    let e6 : x % 2 ^ 64 / 2 ^ 48 % 256 ≡ x / 2 ^ 48 % 256 = omega arith in
-    let e5 : x % 2 ^ 64 / 2 ^ 40 % 256 ≡ x / 2 ^ 40 % 256 = omega arith in
-    let e4 : x % 2 ^ 64 / 2 ^ 32 % 256 ≡ x / 2 ^ 32 % 256 = omega arith in
-    let e3 : x % 2 ^ 64 / 2 ^ 24 % 256 ≡ x / 2 ^ 24 % 256 = omega arith in
-    let e2 : x % 2 ^ 64 / 2 ^ 16 % 256 ≡ x / 2 ^ 16 % 256 = omega arith in
-    let e1 : x % 2 ^ 64 / 2 ^ 8 % 256 ≡ x / 2 ^ 8 % 256 = omega arith in
-    let e0 : x % 2 ^ 64 % 256 ≡ x % 256 = omega arith in
-    simp (e7, e6, e5, e4, e3, e2, e1, e0)
-
-padding-same : (n r bits : ℕ) → r % 64 ≡ n % 64 → bits ≡ (n * 8) % 2 ^ 64 → padding r bits ≡ padding n (8 * n)
+-- the padding depends on the length past the last whole block
+padding-level : (n k bits : ℕ) → n % 64 ≡ k % 64 → padding n bits ≡ padding k bits
 unfolding padding zeros
-padding-same n r bits h e =
-    let swap : n * 8 ≡ 8 * n = omega arith in
-    simp (h, e, swap, bytes8-low)
+padding-level n k bits h = rw h
 
-pub cut-digest : (m s rest : List ℕ) (bits : ℕ) → Cut initial m s rest → bits ≡ (length m * 8) % 2 ^ 64
+pub cut-digest : (m s rest : List ℕ) (bits : ℕ) → Cut initial m s rest → bits ≡ 8 * length m % 2 ^ 64
     → joined bytes4 (absorbed s (rest ++ padding (length rest) bits)) ≡ digestOf m
 unfolding digestOf padded
 cut-digest m s rest bits cut e =
-    let pad = padding (length m) (8 * length m) in
+    let pad = padding (length m) bits in
     let long : length m ≡ length (cut .whole) + length rest = ap length (cut .split) ∙ length-append (cut .whole) rest in
-    let level : length rest % 64 ≡ length m % 64 = omega (arith, cut .blocks) in
-    ap (joined bytes4) (
-    ap (λ p. absorbed s (rest ++ p)) (padding-same (length m) (length rest) bits level e)
-    ∙ ap (λ x. absorbed x (rest ++ pad)) (cut .made)
-    ∙ sym (absorbed-front initial (cut .whole) (rest ++ pad) (cut .blocks))
-    ∙ ap (absorbed initial) (sym (append-assoc (cut .whole) rest pad))
-    ∙ ap (λ l. absorbed initial (l ++ pad)) (sym (cut .split))
-    )
+    let level = padding-level (length rest) (length m) bits (omega (arith, cut .blocks)) in
+    let front = absorbed-front initial (cut .whole) (rest ++ pad) (cut .blocks) in
+    let joins = append-assoc (cut .whole) rest pad in
+    cc
 
 -- the last part of a message, as far as the zeros go
 abbrev pub endMarked : List ℕ → List ℕ
@@ -53,10 +35,7 @@ endMarked rest = rest ++ (128 ∷ replicate (63 - length rest) 0)
 
 -- a front of k zeros from the byte that ends a message
 split-zeros : (rest back : List ℕ) (j k : ℕ) → rest ++ (128 ∷ (replicate (j + k) 0 ++ back)) ≡ (rest ++ (128 ∷ replicate j 0)) ++ (replicate k 0 ++ back)
-split-zeros rest back j k =
-    ap (λ z. rest ++ (128 ∷ (z ++ back))) (sym (replicate-append-replicate j k 0))
-    ∙ ap (λ z. rest ++ (128 ∷ z)) (append-assoc (replicate j 0) (replicate k 0) back)
-    ∙ sym (append-assoc rest (128 ∷ replicate j 0) (replicate k 0 ++ back))
+split-zeros rest back j k = rw (← replicate-append-replicate {A = ℕ} j k 0) (simp append-assoc)
 
 length-bytes8 : (bits : ℕ) → 56 + length (bytes8 bits) ≡ 64
 unfolding bytes8
@@ -65,39 +44,39 @@ length-bytes8 bits = refl
 length-end-marked : (rest : List ℕ) (j n : ℕ) → length rest + 1 + j ≡ n → length (rest ++ (128 ∷ replicate j 0)) ≡ n
 length-end-marked rest j n h = simp (length-append, length-replicate) (omega arith)
 
+-- the block up to the length, where that fits
+front-is : (rest : List ℕ) → length rest < 56 → take 56 (endMarked rest) ≡ rest ++ (128 ∷ replicate (55 - length rest) 0)
+front-is rest h =
+    let front : List ℕ = rest ++ (128 ∷ replicate (55 - length rest) 0) in
+    let more : 63 - length rest ≡ 55 - length rest + 8 = omega arith in
+    ap (λ j. take 56 (rest ++ (128 ∷ replicate j 0))) more
+    ∙ ap (λ z. take 56 (rest ++ (128 ∷ z))) (sym (replicate-append-replicate (55 - length rest) 8 0))
+    ∙ ap (take 56) (sym (append-assoc rest (128 ∷ replicate (55 - length rest) 0) (replicate 8 0)))
+    ∙ take-at front (replicate 8 0) 56 (length-end-marked rest (55 - length rest) 56 (omega arith))
+
 pub one-last-block : (s rest : List ℕ) (bits : ℕ) → length rest < 56
     → compressOf s (take 56 (endMarked rest) ++ bytes8 bits) ≡ absorbed s (rest ++ padding (length rest) bits)
 unfolding padding zeros
 one-last-block s rest bits h =
-    let n = length rest in
-    let gap : (119 - n % 64) % 64 ≡ 55 - n = omega arith in
-    let more : 63 - n ≡ 55 - n + 8 = omega arith in
-    let front : List ℕ = rest ++ (128 ∷ replicate (55 - n) 0) in
-    let long : length front ≡ 56 = length-end-marked rest (55 - n) 56 (omega arith) in
-    let cut : take 56 (endMarked rest) ≡ front =
-    ap (λ j. take 56 (rest ++ (128 ∷ replicate j 0))) more
-    ∙ ap (λ z. take 56 (rest ++ (128 ∷ z))) (sym (replicate-append-replicate (55 - n) 8 0))
-    ∙ ap (take 56) (sym (append-assoc rest (128 ∷ replicate (55 - n) 0) (replicate 8 0)))
-    ∙ take-at front (replicate 8 0) 56 long in
-    let whole : rest ++ (128 ∷ (replicate ((119 - n % 64) % 64) 0 ++ bytes8 bits)) ≡ front ++ bytes8 bits =
-    ap (λ j. rest ++ (128 ∷ (replicate j 0 ++ bytes8 bits))) gap ∙ sym (append-assoc rest (128 ∷ replicate (55 - n) 0) (bytes8 bits)) in
+    let front : List ℕ = rest ++ (128 ∷ replicate (55 - length rest) 0) in
+    let gap : (119 - length rest % 64) % 64 ≡ 55 - length rest = omega arith in
+    let long : length front ≡ 56 = length-end-marked rest (55 - length rest) 56 (omega arith) in
     let full : length (front ++ bytes8 bits) ≡ 64 = length-append front (bytes8 bits) ∙ ap (λ k. k + length (bytes8 bits)) long ∙ length-bytes8 bits in
-    ap (λ l. compressOf s (l ++ bytes8 bits)) cut ∙ sym (absorbed-last s (front ++ bytes8 bits) full) ∙ ap (absorbed s) (sym whole)
+    rw (front-is rest h, gap) (sym (absorbed-last s (front ++ bytes8 bits) full) ∙ ap (absorbed s) (append-assoc rest (128 ∷ replicate (55 - length rest) 0) (bytes8 bits)))
 
 pub two-last-blocks : (s rest : List ℕ) (bits : ℕ) → 56 ≤ length rest → length rest < 64
     → compressOf (compressOf s (endMarked rest)) (replicate 56 0 ++ bytes8 bits) ≡ absorbed s (rest ++ padding (length rest) bits)
 unfolding padding zeros bytes8
 two-last-blocks s rest bits h l =
-    let n = length rest in
-    let gap : (119 - n % 64) % 64 ≡ 63 - n + 56 = omega arith in
-    let full : length (endMarked rest) ≡ 64 = length-end-marked rest (63 - n) 64 (omega arith) in
-    let whole : rest ++ (128 ∷ (replicate ((119 - n % 64) % 64) 0 ++ bytes8 bits)) ≡ endMarked rest ++ (replicate 56 0 ++ bytes8 bits) =
-    ap (λ j. rest ++ (128 ∷ (replicate j 0 ++ bytes8 bits))) gap ∙ split-zeros rest (bytes8 bits) (63 - n) 56 in
+    let last = replicate 56 0 ++ bytes8 bits in
+    let gap : (119 - length rest % 64) % 64 ≡ 63 - length rest + 56 = omega arith in
+    let full : length (endMarked rest) ≡ 64 = length-end-marked rest (63 - length rest) 64 (omega arith) in
+    let whole = ap (λ j. rest ++ (128 ∷ (replicate j 0 ++ bytes8 bits))) gap ∙ split-zeros rest (bytes8 bits) (63 - length rest) 56 in
     sym (
     ap (absorbed s) whole
-    ∙ absorbed-front s (endMarked rest) (replicate 56 0 ++ bytes8 bits) (omega (arith, full))
-    ∙ ap (λ x. absorbed x (replicate 56 0 ++ bytes8 bits)) (absorbed-last s (endMarked rest) full)
-    ∙ absorbed-last (compressOf s (endMarked rest)) (replicate 56 0 ++ bytes8 bits) refl
+    ∙ absorbed-front s (endMarked rest) last (omega (arith, full))
+    ∙ ap (λ x. absorbed x last) (absorbed-last s (endMarked rest) full)
+    ∙ absorbed-last (compressOf s (endMarked rest)) last refl
     )
 
 -- the block that `end_marked` makes: ys is laid over zeros, and then the byte that ends a message
@@ -123,6 +102,6 @@ length-padding n bits = simp (length-append, length-replicate) (omega arith)
 pub padding-fits : Padding-fits
 unfolding padded zeros
 padding-fits m =
-    let long : length (m ++ padding (length m) (8 * length m)) ≡ length m + (9 + (119 - length m % 64) % 64) =
-    length-append m (padding (length m) (8 * length m)) ∙ ap (λ k. length m + k) (length-padding (length m) (8 * length m)) in
-    (omega arith, omega arith, λ k h. omega arith)
+    let pad = padding (length m) (8 * length m % 2 ^ 64) in
+    let long = length-padding (length m) (8 * length m % 2 ^ 64) in
+    (rw (length-append m pad) (omega arith), omega arith, λ k h. omega arith)

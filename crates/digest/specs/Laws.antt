@@ -32,3 +32,7 @@ Published =
     ≡ joined bytes4 (0x248d6a61 ∷ 0xd20638b8 ∷ 0xe5c02693 ∷ 0x0c3e6039 ∷ 0xa33ce459 ∷ 0x64ff2167 ∷ 0xf6ecedd4 ∷ 0x19db06c1 ∷ []))
     × (digestOf (codes "abcdefghbcdefghicdefghijdefghijkefghijklfghijklmghijklmnhijklmnoijklmnopjklmnopqklmnopqrlmnopqrsmnopqrstnopqrstu")
     ≡ joined bytes4 (0xcf5b16a7 ∷ 0x78af8380 ∷ 0x036ce59e ∷ 0x7b049237 ∷ 0x0b249b11 ∷ 0xe8f07a51 ∷ 0xafac4503 ∷ 0x7afee9d1 ∷ []))
+
+-- a digest is 32 bytes
+abbrev pub Digest-long : Type 0
+Digest-long = (m : List ℕ) → length (digestOf m) ≡ 32

@@ -60,7 +60,6 @@ constants =
 unfoldable pub bytes4 : ℕ → List ℕ
 bytes4 x = (x / 2 ^ 24 % 256) ∷ (x / 2 ^ 16 % 256) ∷ (x / 2 ^ 8 % 256) ∷ (x % 256) ∷ []
 
--- the low 64 bits, which are all of the length of a message that FIPS 180-4 allows
 unfoldable pub bytes8 : ℕ → List ℕ
 bytes8 x =
     (x / 2 ^ 56 % 256) ∷ (x / 2 ^ 48 % 256) ∷ (x / 2 ^ 40 % 256) ∷ (x / 2 ^ 32 % 256)
@@ -80,8 +79,9 @@ zeros n = (119 - n % 64) % 64
 unfoldable pub padding : ℕ → ℕ → List ℕ
 padding n bits = 0x80 ∷ (replicate (zeros n) 0 ++ bytes8 bits)
 
+-- the length in bits is below 2 ^ 64 for every message that FIPS 180-4 allows
 unfoldable pub padded : List ℕ → List ℕ
-padded m = m ++ padding (length m) (8 * length m)
+padded m = m ++ padding (length m) (8 * length m % 2 ^ 64)
 
 -- 5.3.3: the initial hash value
 unfoldable pub initial : List ℕ
