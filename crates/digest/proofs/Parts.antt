@@ -14,18 +14,17 @@ use Rattle.digest.proofs.BlockByBlock.{cut-push, cut-join, cut-block}
 -- the block that `laid` makes
 pub laid-is : (block ys part : List ℕ) (at : ℕ) → ys ≡ part
     → putMid at (at + length part - at) block ys ≡ take at block ++ (part ++ drop (at + length part) block)
-laid-is block ys part at e =
-    ap (λ l. take at block ++ (ys ++ l)) (post-is at (at + length part) block (omega arith)) ∙ ap (λ l. take at block ++ (l ++ drop (at + length part) block)) e
+laid-is block ys part at e = rw (e, post-is at (at + length part) block (omega arith))
 
 -- a part is laid after what the block has, and does not fill it
 pub kept : (block part out after : List ℕ) (at : ℕ) → at ≤ length block → out ≡ take at block ++ (part ++ after) → take (at + length part) out ≡ take at block ++ part
 kept block part out after at h e =
-    let long : length (take at block ++ part) ≡ at + length part = length-append (take at block) part ∙ ap (λ n. n + length part) (length-take-le at block h) in
-    ap (take (at + length part)) (e ∙ sym (append-assoc (take at block) part after)) ∙ take-at (take at block ++ part) after (at + length part) long
+    let long : length (take at block ++ part) ≡ at + length part = rw (length-append, length-take-le at block h) in
+    rw (e, ← append-assoc) (take-at (take at block ++ part) after (at + length part) long)
 
 -- a part is laid at the front
 pub kept-front : (rest after out : List ℕ) → out ≡ rest ++ after → take (length rest) out ≡ rest
-kept-front rest after out e = ap (take (length rest)) e ∙ take-at rest after (length rest) refl
+kept-front rest after out e = rw e (take-at rest after (length rest) refl)
 
 -- the front of a part fills the block, which is taken in
 pub filled-up : (m state block part front back full : List ℕ) (at : ℕ) → at < 64 → length block ≡ 64 → length front ≡ 64 - at → part ≡ front ++ back
@@ -33,13 +32,11 @@ pub filled-up : (m state block part front back full : List ℕ) (at : ℕ) → a
     → Cut initial (m ++ part) (compressOf state full) back
 filled-up m state block part front back full at h long room p f cut =
     let le : at ≤ length block = omega arith in
-    let none : drop (at + length front) block ≡ [] = drop-all (at + length front) block (omega arith) in
-    let whole : full ≡ take at block ++ front = f ∙ ap (λ l. take at block ++ (front ++ l)) none ∙ ap (λ l. take at block ++ l) (append-nil front) in
-    let sixty-four : length full ≡ 64 =
-    ap length whole ∙ length-append (take at block) front ∙ ap (λ n. n + length front) (length-take-le at block le) ∙ omega arith in
-    let joins : take at block ++ part ≡ full ++ back =
-    ap (λ l. take at block ++ l) p ∙ sym (append-assoc (take at block) front back) ∙ ap (λ l. l ++ back) (sym whole) in
-    cut-join (subst (λ l. Cut initial (m ++ part) state l) joins (cut-push part cut)) (cut-block state full back sixty-four)
+    let none = drop-all (at + length front) block (omega arith) in
+    let whole : full ≡ take at block ++ front = rw (f, none, append-nil front) in
+    let sixty-four : length full ≡ 64 = rw (whole, length-append (take at block) front, length-take-le at block le) (omega arith) in
+    let joins : take at block ++ part ≡ full ++ back = rw (p, whole) (sym (append-assoc (take at block) front back)) in
+    cut-join (subst (Cut initial (m ++ part) state) joins (cut-push part cut)) (cut-block state full back sixty-four)
 
 pub counted-more : (m part : List ℕ) (count : ℕ) → count ≡ length m % 2 ^ 64 → (count + length part) % 2 ^ 64 ≡ length (m ++ part) % 2 ^ 64
 counted-more m part count h = simp length-append (omega arith)

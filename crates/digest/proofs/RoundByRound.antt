@@ -18,8 +18,7 @@ rounds-more n s ws = rw add-one
 -- one more round
 pub round-more : (s ws : List ℕ) (t n : ℕ) {before after : List ℕ} → n ≡ t + 1 → before ≡ rounds t s ws
     → after ≡ roundOf before (getD constants t 0) (getD ws t 0) → after ≡ rounds n s ws
-round-more s ws t n e b a =
-    a ∙ ap (λ x. roundOf x (getD constants t 0) (getD ws t 0)) b ∙ sym (rounds-more t s ws) ∙ ap (λ m. rounds m s ws) (sym e)
+round-more s ws t n e b a = rw (a, b, e) (sym (rounds-more t s ws))
 
 -- lists that agree below n agree at t
 at-front : (xs ys : List ℕ) (n t : ℕ) → t < n → take n xs ≡ take n ys → getD xs t 0 ≡ getD ys t 0
@@ -36,9 +35,12 @@ next-stored block w t l h long e =
     let in-ws : t < length ws = omega arith in
     let to-w : t ≤ length w = omega arith in
     let to-ws : t ≤ length ws = omega arith in
-    let value : nextWord w t ≡ getD ws t 0 =
-    sym (next-take w t l to-w) ∙ ap (λ x. nextWord x t) e ∙ next-take ws t l to-ws ∙ sym (laws .2 t l h) in
-    take-more-set w t (nextWord w t) in-w ∙ ap (λ x. take t w ++ (x ∷ [])) value ∙ ap (λ p. p ++ (getD ws t 0 ∷ [])) e ∙ sym (take-more ws t 0 in-ws)
+    let front = next-take w t l to-w in
+    let same = next-take ws t l to-ws in
+    let next = laws .2 t l h in
+    let stored = take-more-set w t (nextWord w t) in-w in
+    let more = take-more ws t 0 in-ws in
+    cc
 
 pub along-none : (block s w : List ℕ) → w ≡ words 16 block ++ replicate 48 0 → Along block s 0 s w
 unfolding rounds scheduleOf
@@ -46,7 +48,7 @@ along-none block s w e =
     let long = length-words 16 block in
     record {
       mixed = refl;
-      stored = ap (take 16) e ∙ take-at (words 16 block) (replicate 48 0) 16 long ∙ sym (take-extended 48 (words 16 block) 16 long);
+      stored = rw e (take-at (words 16 block) (replicate 48 0) 16 long) ∙ sym (take-extended 48 (words 16 block) 16 long);
     }
 
 -- a round, and the word that it stores
@@ -61,11 +63,7 @@ along-more block s t n m w v {before} e g h long a f along =
     let k : t + 16 < 64 = omega arith in
     record {
       mixed = round-more s ws t n e (along .mixed) (a ∙ ap (roundOf before (getD constants t 0)) read);
-      stored =
-          ap (take (n + 16)) (f ∙ ap (λ i. set w i (nextWord w i)) g)
-          ∙ ap (λ i. take i (set w (t + 16) (nextWord w (t + 16)))) (sym up)
-          ∙ next-stored block w (t + 16) l k long (along .stored)
-          ∙ ap (λ i. take i ws) up;
+      stored = rw (f, g, ← up) (next-stored block w (t + 16) l k long (along .stored));
     }
 
 -- once forty-eight rounds are done, all words are stored

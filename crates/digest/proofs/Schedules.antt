@@ -5,7 +5,7 @@ use Prim.Native.Nat.{ℕ, zero, suc, _+_, _-_, _*_, _≤_, _<_}
 use native.Mathlib.Numerals.{add-one}
 use native.Mathlib.Omega.{arith}
 use lib.ListN.{length, take, drop, set, replicate, take-append-drop, getD, List·getD-append}
-use lib.Seq.{take-append-le, take-all, set-at, length-take-le, getD-at}
+use lib.Seq.{take-append-le, take-all, set-at, length-take-le, getD-at, getD-take}
 use mathlib.Core.Logic.{⊎-elim}
 use Rattle.std.proofs.shelf.Lists.{length-push}
 use Rattle.std.proofs.shelf.Tests.{cases-lt}
@@ -50,19 +50,15 @@ length-extended zero ws = omega arith
 length-extended (suc n) ws = let long = length-extended n ws in length-push (extended n ws) _ ∙ omega arith
 
 -- the first words stay
-extended-front : (n : ℕ) (ws : List ℕ) (t : ℕ) → t < length ws → getD (extended n ws) t 0 ≡ getD ws t 0
-unfolding extended
-extended-front zero ws t h = refl
-extended-front (suc n) ws t h =
-    let long = length-extended n ws in
-    List·getD-append (extended n ws) _ 0 t (omega arith) ∙ extended-front n ws t h
-
 pub take-extended : (n : ℕ) (ws : List ℕ) (k : ℕ) → length ws ≡ k → take k (extended n ws) ≡ ws
 unfolding extended
 take-extended zero ws k h = take-all k ws (omega arith)
 take-extended (suc n) ws k h =
     let long = length-extended n ws in
     take-append-le k (extended n ws) _ (omega arith) ∙ take-extended n ws k h
+
+extended-front : (n : ℕ) (ws : List ℕ) (t : ℕ) → t < length ws → getD (extended n ws) t 0 ≡ getD ws t 0
+extended-front n ws t h = sym (getD-take (length ws) (extended n ws) t 0 h) ∙ ap (λ l. getD l t 0) (take-extended n ws (length ws) refl)
 
 -- the next word depends on those before it alone
 pub next-front : (xs ys : List ℕ) (t : ℕ) → 16 ≤ t → t ≤ length xs → nextWord (xs ++ ys) t ≡ nextWord xs t

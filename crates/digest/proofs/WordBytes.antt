@@ -23,6 +23,5 @@ unfolding bytes4
 bytes-stored out ys state i long h e f =
     let four : length ys ≡ 4 = ap length f in (
       simp (length-append, length-take, length-drop) (omega arith),
-      take-putMid (4 * i) (4 * i + 4 - 4 * i) out ys (4 * (i + 1)) (omega arith) (omega arith)
-          ∙ ap (λ l. l ++ ys) e ∙ ap (λ l. joined bytes4 (take i state) ++ l) f ∙ bytes-more state i h,
+      rw (take-putMid (4 * i) (4 * i + 4 - 4 * i) out ys (4 * (i + 1)) (omega arith) (omega arith), e, f) (bytes-more state i h),
     )
