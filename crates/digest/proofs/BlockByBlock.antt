@@ -52,7 +52,7 @@ cut-none s bytes = record { whole = []; split = refl; blocks = refl; made = sym 
 pub cut-push : {s bytes state rest : List ℕ} (more : List ℕ) → Cut s bytes state rest → Cut s (bytes ++ more) state (rest ++ more)
 cut-push {s} {bytes} {state} {rest} more cut = record {
   whole = cut .whole;
-  split = ap (λ l. l ++ more) (cut .split) ∙ append-assoc (cut .whole) rest more;
+  split = rw (cut .split) (append-assoc (cut .whole) rest more);
   blocks = cut .blocks;
   made = cut .made;
 }
@@ -61,9 +61,9 @@ cut-push {s} {bytes} {state} {rest} more cut = record {
 pub cut-join : {s bytes state rest state′ rest′ : List ℕ} → Cut s bytes state rest → Cut state rest state′ rest′ → Cut s bytes state′ rest′
 cut-join {s} {bytes} {state} {rest} {state′} {rest′} cut cut′ = record {
   whole = cut .whole ++ cut′ .whole;
-  split = cut .split ∙ ap (λ l. cut .whole ++ l) (cut′ .split) ∙ sym (append-assoc (cut .whole) (cut′ .whole) rest′);
+  split = rw (cut .split, cut′ .split) (sym (append-assoc (cut .whole) (cut′ .whole) rest′));
   blocks = simp length-append (omega (arith, cut .blocks, cut′ .blocks));
-  made = cut′ .made ∙ ap (λ x. absorbed x (cut′ .whole)) (cut .made) ∙ sym (absorbed-front s (cut .whole) (cut′ .whole) (cut .blocks));
+  made = rw (cut′ .made, cut .made) (sym (absorbed-front s (cut .whole) (cut′ .whole) (cut .blocks)));
 }
 
 -- one block

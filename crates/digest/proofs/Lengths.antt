@@ -3,7 +3,7 @@ use mathlib.Core.Path.{_≡_, refl, ap, _∙_}
 use mathlib.Core.List.{List, [], _∷_}
 use Prim.Native.Nat.{ℕ, zero, suc, _*_, _/_}
 use native.Mathlib.Omega.{arith}
-use lib.ListN.{length, take, drop, length-append}
+use lib.ListN.{length, take, drop}
 use Rattle.std.specs.Joined.{joined}
 use Rattle.digest.specs.Sha256.{bytes4, initial, scheduleOf, rounds, sums, compressOf, hashed, absorbed, padded, digestOf}
 use Rattle.digest.specs.Laws.{Digest-long}

@@ -1,7 +1,7 @@
 -- The end of a message: its last blocks, and the padding in them.
 use mathlib.Core.Path.{_≡_, refl, sym, ap, _∙_}
 use mathlib.Core.List.{List, [], _∷_, _++_, append-assoc, append-nil}
-use Prim.Native.Nat.{ℕ, suc, _+_, _-_, _*_, _/_, _%_, _^_, _≤_, _<_}
+use Prim.Native.Nat.{ℕ, suc, _+_, _-_, _*_, _%_, _^_, _≤_, _<_}
 use native.Mathlib.Omega.{arith}
 use lib.ListN.{length, take, drop, set, replicate, length-append, length-replicate, length-drop, replicate-append-replicate}
 use lib.Seq.{take-at, set-at}
@@ -93,7 +93,7 @@ end-marked-is rest ys h e =
 pub with-length-is : (block ys last : List ℕ) → length block ≡ 64 → ys ≡ last → putMid 56 8 block ys ≡ take 56 block ++ last
 with-length-is block ys last h e =
     let none : drop 8 (drop 56 block) ≡ [] = drop-all 8 (drop 56 block) (simp length-drop (omega arith)) in
-    ap (λ l. take 56 block ++ (ys ++ l)) none ∙ ap (λ l. take 56 block ++ l) (append-nil ys ∙ e)
+    rw (none, append-nil ys, e)
 
 length-padding : (n bits : ℕ) → length (padding n bits) ≡ 9 + zeros n
 unfolding padding bytes8

@@ -19,7 +19,7 @@ length-words (suc n) block = length-push (words n block) _ ∙ ap (λ k. k + 1) 
 
 words-more : (n : ℕ) (block : List ℕ) → words (n + 1) block ≡ words n block ++ (wordAt block (4 * n) ∷ [])
 unfolding words
-words-more n block = rw add-one
+words-more n block = rw (add-one n)
 
 words-at : (n : ℕ) (block : List ℕ) (t : ℕ) → t < n → getD (words n block) t 0 ≡ wordAt block (4 * t)
 unfolding words
@@ -32,17 +32,12 @@ words-at (suc n) block t h =
     (cases-lt t n)
 
 -- one more word of the block is stored, over a zero
-pub word-stored : (block : List ℕ) (t j v : ℕ) → j ≡ 63 - t → t < 16 → length (words t block) ≡ t → v ≡ wordAt block (4 * t)
+pub word-stored : (block : List ℕ) (t v : ℕ) → t < 16 → v ≡ wordAt block (4 * t)
     → set (words t block ++ replicate (64 - t) 0) t v ≡ words (t + 1) block ++ replicate (64 - (t + 1)) 0
-word-stored block t j v g h long f =
-    let here : 64 - t ≡ suc j = omega arith in
-    let there : j ≡ 64 - (t + 1) = omega arith in
-    ap (λ n. set (words t block ++ replicate n 0) t v) here
-    ∙ set-at (words t block) 0 (replicate j 0) v t long
-    ∙ ap (λ x. words t block ++ (x ∷ replicate j 0)) f
-    ∙ sym (append-assoc (words t block) (wordAt block (4 * t) ∷ []) (replicate j 0))
-    ∙ ap (λ l. l ++ replicate j 0) (sym (words-more t block))
-    ∙ ap (λ n. words (t + 1) block ++ replicate n 0) there
+word-stored block t v h e =
+    let here : 64 - t ≡ suc (63 - t) = omega arith in
+    let there : 64 - (t + 1) ≡ 63 - t = omega arith in
+    rw (here, there, set-at (words t block) 0 (replicate (63 - t) 0) v t (length-words t block), e, words-more t block) (sym (append-assoc (words t block) (wordAt block (4 * t) ∷ []) (replicate (63 - t) 0)))
 
 pub length-extended : (n : ℕ) (ws : List ℕ) → length (extended n ws) ≡ length ws + n
 unfolding extended

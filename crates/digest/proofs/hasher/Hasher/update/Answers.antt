@@ -1,8 +1,4 @@
-use mathlib.Core.Path.{sym, subst}
-use mathlib.Core.List.{_++_}
 use native.Mathlib.Omega.{arith}
-use Rattle.digest.specs.Progress.{Cut}
-use Rattle.digest.specs.Sha256.{initial}
 use Rattle.digest.proofs.BlockByBlock.{cut-push, cut-join}
 use Rattle.digest.proofs.Parts.{kept, kept-front, filled-up, counted-more}
 use Rattle.digest.proofs.hasher.Hasher.update.Needs as need
@@ -12,7 +8,7 @@ returns-then-part-room c = λ m fed.
     let h = c .args .self .now in
     let part = c .args .part .now in
     record {
-      cut = subst (Cut initial (m ++ part) (h .state)) (sym (kept (h .block) part _ _ (h .filled) (omega arith) (c .laid .ensures))) (cut-push part (fed .cut));
+      cut = rw (kept (h .block) part _ _ (h .filled) (omega arith) (c .laid .ensures)) (cut-push part (fed .cut));
       counted = counted-more m part _ (fed .counted);
     }
 
@@ -24,8 +20,8 @@ returns-else-part-room c = λ m fed.
     let back = c .split-at .result .1 .now in
     let up = filled-up m (h .state) (h .block) part front back (c .laid-full .result) (h .filled) (omega arith) (omega arith) (c .split-at .ensures .front-len)
     (c .split-at .ensures .places .0) (c .laid-full .ensures) (fed .cut) in
-    let on = subst (λ s. Cut initial (m ++ part) s back) (sym (c .compress .ensures)) up in
+    let on = rw (← c .compress .ensures) at up in
     record {
-      cut = subst (Cut initial (m ++ part) (c .absorb .result .0)) (sym (kept-front _ _ _ (c .laid-else-part-room .ensures))) (cut-join on (c .absorb .ensures .cut));
+      cut = rw (kept-front _ _ _ (c .laid-else-part-room .ensures)) (cut-join on (c .absorb .ensures .cut));
       counted = counted-more m part _ (fed .counted);
     }
