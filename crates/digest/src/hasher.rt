@@ -3,7 +3,7 @@ ghost use Prim.Native.Nat.{_<_};
 
 mod methods;
 
-// The state after the whole blocks, the bytes that do not yet make a block (the first `filled` of it), and how many bytes came in all.
+// The state after the whole blocks, the bytes of the block that was begun (the first `filled` of it), and how many bytes came in all.
 #[derive(Drop)]
 pub struct Hasher {
     state: [u32; 8],

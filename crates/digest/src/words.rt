@@ -1,4 +1,4 @@
-// The functions on 32-bit words, and words as bytes with the most significant first.
+// The six functions on 32-bit words (FIPS 180-4, 4.1.2), and words as bytes with the most significant first.
 ghost use mathlib.Core.Path.{_≡_};
 ghost use Prim.Native.Nat.{_+_, _≤_};
 ghost use lib.ListN.{length};

@@ -22,6 +22,7 @@ fn laid(block: [u8; 64], at: usize, part: &[u8]) -> [u8; 64]
 }
 
 impl Hasher {
+    // A hasher of the empty message.
     pub fn new() -> Hasher
         ensures { λ r. ⌜ Fed r [] ⌝ }
     {
@@ -33,7 +34,7 @@ impl Hasher {
         }
     }
 
-    // Takes in the next part of the message.
+    // Takes in the next part of the message: first what fills the block that was begun, then whole blocks, then what is left.
     pub fn update(&mut self, part: &[u8])
         ensures { λ _. ⌜ ((m : List ℕ) → Fed (now (self .entry)) m → Fed (now (self .exit)) (m ++ now (part .entry))) ⌝ }
     {
