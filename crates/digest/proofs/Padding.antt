@@ -61,8 +61,9 @@ one-last-block s rest bits h =
     let front : List ℕ = rest ++ (128 ∷ replicate (55 - length rest) 0) in
     let gap : (119 - length rest % 64) % 64 ≡ 55 - length rest = omega arith in
     let long : length front ≡ 56 = length-end-marked rest (55 - length rest) 56 (omega arith) in
-    let full : length (front ++ bytes8 bits) ≡ 64 = length-append front (bytes8 bits) ∙ ap (λ k. k + length (bytes8 bits)) long ∙ length-bytes8 bits in
-    rw (front-is rest h, gap) (sym (absorbed-last s (front ++ bytes8 bits) full) ∙ ap (absorbed s) (append-assoc rest (128 ∷ replicate (55 - length rest) 0) (bytes8 bits)))
+    let full : length (front ++ bytes8 bits) ≡ 64 = rw (length-append front (bytes8 bits), long) (length-bytes8 bits) in
+    let joins = append-assoc rest (128 ∷ replicate (55 - length rest) 0) (bytes8 bits) in
+    rw (front-is rest h, gap, ← joins) (sym (absorbed-last s (front ++ bytes8 bits) full))
 
 pub two-last-blocks : (s rest : List ℕ) (bits : ℕ) → 56 ≤ length rest → length rest < 64
     → compressOf (compressOf s (endMarked rest)) (replicate 56 0 ++ bytes8 bits) ≡ absorbed s (rest ++ padding (length rest) bits)

@@ -17,7 +17,8 @@ pub laid-is : (block ys part : List ℕ) (at : ℕ) → ys ≡ part
 laid-is block ys part at e = rw (e, post-is at (at + length part) block (omega arith))
 
 -- a part is laid after what the block has, and does not fill it
-pub kept : (block part out after : List ℕ) (at : ℕ) → at ≤ length block → out ≡ take at block ++ (part ++ after) → take (at + length part) out ≡ take at block ++ part
+pub kept : (block part out after : List ℕ) (at : ℕ) → at ≤ length block → out ≡ take at block ++ (part ++ after)
+    → take (at + length part) out ≡ take at block ++ part
 kept block part out after at h e =
     let long : length (take at block ++ part) ≡ at + length part = rw (length-append, length-take-le at block h) in
     rw (e, ← append-assoc) (take-at (take at block ++ part) after (at + length part) long)

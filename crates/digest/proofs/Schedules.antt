@@ -37,7 +37,9 @@ pub word-stored : (block : List ℕ) (t v : ℕ) → t < 16 → v ≡ wordAt blo
 word-stored block t v h e =
     let here : 64 - t ≡ suc (63 - t) = omega arith in
     let there : 64 - (t + 1) ≡ 63 - t = omega arith in
-    rw (here, there, set-at (words t block) 0 (replicate (63 - t) 0) v t (length-words t block), e, words-more t block) (sym (append-assoc (words t block) (wordAt block (4 * t) ∷ []) (replicate (63 - t) 0)))
+    let stored = set-at (words t block) 0 (replicate (63 - t) 0) v t (length-words t block) in
+    let joins = append-assoc (words t block) (wordAt block (4 * t) ∷ []) (replicate (63 - t) 0) in
+    rw (here, there, stored, e, words-more t block) (sym joins)
 
 pub length-extended : (n : ℕ) (ws : List ℕ) → length (extended n ws) ≡ length ws + n
 unfolding extended
@@ -69,7 +71,8 @@ next-take w t l h =
     let long : t ≤ length (take t w) = omega (arith, length-take-le t w h) in
     sym (next-front (take t w) (drop t w) t l long) ∙ ap (λ x. nextWord x t) (take-append-drop t w)
 
-extended-at : (n : ℕ) (ws : List ℕ) (t : ℕ) → 16 ≤ length ws → length ws ≤ t → t < length ws + n → getD (extended n ws) t 0 ≡ nextWord (extended n ws) t
+extended-at : (n : ℕ) (ws : List ℕ) (t : ℕ) → 16 ≤ length ws → length ws ≤ t → t < length ws + n
+    → getD (extended n ws) t 0 ≡ nextWord (extended n ws) t
 unfolding extended
 extended-at zero ws t g l h = absurd (omega arith)
 extended-at (suc n) ws t g l h =

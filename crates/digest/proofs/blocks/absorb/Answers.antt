@@ -6,4 +6,5 @@ loop-rest-holds c = cut-none _ _
 
 pub loop-rest-again : need.loop-rest-again
 loop-rest-again c =
-    rw (← c .split-at .ensures .front, ← c .split-at .ensures .back, ← c .compress-next .ensures) at (cut-more _ _ _ _ (c .loop-rest-test .taken) (c .loop-rest .inv))
+    let more = cut-more _ _ _ _ (c .loop-rest-test .taken) (c .loop-rest .inv) in
+    rw (← c .split-at .ensures .front, ← c .split-at .ensures .back, ← c .compress-next .ensures) at more
