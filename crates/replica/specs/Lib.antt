@@ -1,2 +1,4 @@
 pub mod Heads
 pub mod Model
+pub mod Steps
+pub mod Views

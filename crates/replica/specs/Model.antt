@@ -1,6 +1,6 @@
 -- A replica as its number and its log: what each call does, and which it refuses.
 use mathlib.Core.Bool.{Bool, true, false, cond, _||_, not}
-use mathlib.Core.List.{List, [], _∷_, _++_}
+use mathlib.Core.List.{List, map}
 use Prim.Native.Nat.{ℕ, suc, _+_}
 use lib.Dec.{leb, ltb, eqb}
 use lib.ListN.{length}
@@ -16,6 +16,9 @@ pub record State : Type 0 where
 
 abbrev pub fresh : ℕ → State
 fresh hut = record { hut = hut; log = emptyLog }
+
+abbrev pub marksOf : State → List PlainMark
+marksOf s = map (λ e. e .mark) (allOf (s .log))
 
 -- the limits: entries of a replica, and stamps, of which the last may not be used
 abbrev pub capacity : ℕ

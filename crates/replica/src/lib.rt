@@ -1,3 +1,4 @@
 // A replica: its log, and a book that is always the one that the log makes.
+pub mod fault;
 pub mod head;
 pub mod replica;

@@ -1,0 +1,83 @@
+-- The highest stamps of a list, as entries come.
+use mathlib.Core.Bool.{Bool, true, false, cond, _||_}
+use mathlib.Core.List.{List, [], _∷_, _++_, map}
+use mathlib.Core.Logic.{_≢_, ⊎-elim}
+use mathlib.Core.Path.{_≡_, refl, sym, _∙_, ap}
+use Prim.Native.Nat.{ℕ, zero, suc, _+_, _<_, _≤_, max}
+use native.Mathlib.Omega.{arith}
+use lib.Dec.{eqb, ltb}
+use lib.ListN.{length, getD, set, length-set}
+use Rattle.std.proofs.shelf.Counted.{length-map-counting, getD-map-counting}
+use Rattle.std.proofs.shelf.Lists.{same-lists, getD-default, getD-set-same, getD-set-other}
+use Rattle.std.proofs.shelf.Tests.{cases-eq, cond-both, eq-eqb, ne-eqb, le-ltb}
+use Rattle.std.specs.Iters.{counting}
+use Rattle.bookings.specs.Plain.{PlainMark, PlainEntry}
+use Rattle.log.specs.Logs.{top, into}
+use Rattle.log.specs.Order.{before}
+use Rattle.log.specs.Vectors.{highest, vectorOf, noStamps, noted}
+
+pub top-append : (xs ys : List PlainEntry) → top (xs ++ ys) ≡ max (top xs) (top ys)
+top-append [] ys = omega arith
+top-append (x ∷ xs) ys = let rest = top-append xs ys in omega arith
+
+-- an entry with a stamp above all is put last
+pub into-last : (e : PlainEntry) (es : List PlainEntry) → top es < e .mark .stamp → into e es ≡ es ++ e ∷ []
+into-last e [] above = refl
+into-last e (f ∷ fs) above =
+    let later : before (e .mark) (f .mark) ≡ false =
+    rw (le-ltb (e .mark .stamp) (f .mark .stamp) (omega arith), ne-eqb (e .mark .stamp) (f .mark .stamp) (λ same. omega arith)) refl in
+    rw later (ap (λ l. f ∷ l) (into-last e fs (omega arith)))
+
+-- of one hut
+one-stamp : PlainEntry → ℕ → ℕ
+one-stamp e h = cond (eqb (e .mark .hut) h) (e .mark .stamp) 0
+
+highest-cons : (e : PlainEntry) (es : List PlainEntry) (h : ℕ) → highest (e ∷ es) h ≡ max (one-stamp e h) (highest es h)
+unfolding one-stamp
+highest-cons e es h =
+    ⊎-elim (λ same. rw (eq-eqb (e .mark .hut) h same) refl) (λ other. rw (ne-eqb (e .mark .hut) h other) (omega arith)) (cases-eq (e .mark .hut) h)
+
+pub highest-append : (xs ys : List PlainEntry) (h : ℕ) → highest (xs ++ ys) h ≡ max (highest xs h) (highest ys h)
+highest-append [] ys h = omega arith
+highest-append (x ∷ xs) ys h = let rest = highest-append xs ys h in omega (arith, highest-cons x (xs ++ ys) h, highest-cons x xs h)
+
+-- the vector, hut by hut
+pub vector-at : (es : List PlainEntry) (h : ℕ) → h < 16 → getD (vectorOf es) h 0 ≡ highest es h
+unfolding vectorOf
+vector-at es h in-huts = getD-map-counting (highest es) 0 16 h h 0 in-huts (omega arith)
+
+pub vector-long : (es : List PlainEntry) → length (vectorOf es) ≡ 16
+unfolding vectorOf
+vector-long es = length-map-counting (highest es) 0 16
+
+pub vector-none : noStamps ≡ vectorOf []
+unfolding vectorOf noStamps
+vector-none = refl
+
+-- two vectors that are alike hut by hut
+vectors-same : (v w : List ℕ) → length v ≡ 16 → length w ≡ 16 → ((h : ℕ) → h < 16 → getD v h 0 ≡ getD w h 0) → v ≡ w
+vectors-same v w long-v long-w each =
+    same-lists v w (long-v ∙ sym long-w)
+    (λ k d h. getD-default v k d 0 h ∙ each k (omega arith) ∙ getD-default w k 0 d (omega arith))
+
+-- with an entry more, wherever it stands
+pub vector-more :
+    (es fs : List PlainEntry) (e : PlainEntry) → e .mark .hut < 16 → ((h : ℕ) → highest fs h ≡ highest (e ∷ es) h) → noted (e .mark) (vectorOf es) ≡ vectorOf fs
+vector-more es fs e in-huts more =
+    vectors-same _ _ (length-set (vectorOf es) (e .mark .hut) _ ∙ vector-long es) (vector-long fs)
+    (λ h h-in.
+    let was = vector-at es h h-in in
+    let is = vector-at fs h h-in ∙ more h in
+    ⊎-elim
+    (λ same.
+    let there : e .mark .hut < length (vectorOf es) = omega (arith, vector-long es) in
+    ap (λ k. getD (noted (e .mark) (vectorOf es)) k 0) (sym same)
+    ∙ getD-set-same (vectorOf es) (e .mark .hut) _ 0 there
+    ∙ let own : getD (vectorOf es) (e .mark .hut) 0 ≡ highest es h = vector-at es (e .mark .hut) in-huts ∙ ap (highest es) same in
+    let new : highest (e ∷ es) h ≡ max (e .mark .stamp) (highest es h) = rw (eq-eqb (e .mark .hut) h same) refl in
+    omega arith)
+    (λ other.
+    let apart : h ≢ e .mark .hut = λ s. other (sym s) in
+    getD-set-other (vectorOf es) (e .mark .hut) h _ 0 apart ∙ was
+    ∙ sym (is ∙ rw (ne-eqb (e .mark .hut) h other) refl))
+    (cases-eq (e .mark .hut) h))

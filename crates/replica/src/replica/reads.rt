@@ -1,0 +1,82 @@
+// What a replica is asked.
+ghost use mathlib.Core.List.{map};
+ghost use mathlib.Core.Path.{_≡_};
+ghost use Prim.Native.Nat.{ℕ, _<_, _≤_};
+ghost use lib.Dec.{ltb};
+ghost use lib.ListN.{length, getD};
+ghost use Rattle.std.specs.Results.{Cases};
+ghost use Rattle.std.specs.declared.option.Option.the-variants.{None, Some};
+ghost use Rattle.bookings.specs.Books.{bookOf, placeFrom};
+ghost use Rattle.bookings.specs.Nights.{placeOf};
+ghost use Rattle.bookings.specs.Outcomes.{nothing, plainOutcome};
+ghost use Rattle.bookings.specs.Plain.{plain, plainMark};
+ghost use Rattle.bookings.specs.Refusals.{numberOf};
+ghost use Rattle.log.specs.Logs.{allOf};
+ghost use Rattle.replica.specs.Model.{marksOf};
+ghost use Rattle.replica.specs.Views.{stateOf};
+use super::Replica;
+use bookings::book::Night;
+use bookings::entry::Entry;
+use bookings::entry::Mark;
+use bookings::outcome::Outcome;
+use bookings::refusal::Refusal;
+
+// What came of an entry, and whether it is committed.
+#[derive(Clone, Copy)]
+pub struct Told {
+    pub committed: bool,
+    pub outcome: Outcome,
+}
+
+impl Replica {
+    pub fn hut(&self) -> u8
+        ensures { λ r. ⌜ r ≡ stateOf (now (self .entry)) .hut ⌝ }
+    {
+        self.head.hut
+    }
+
+    // How many entries are committed.
+    pub fn committed(&self) -> usize
+        ensures { λ r. ⌜ r ≡ length (stateOf (now (self .entry)) .log .committed) ⌝ }
+    {
+        self.log.committed()
+    }
+
+    // The log, the committed entries first.
+    pub fn entries(&self) -> &[Entry]
+        ensures { λ r. ⌜ map plain (now r) ≡ allOf (stateOf (now (self .entry)) .log) ⌝ }
+    {
+        self.log.as_slice()
+    }
+
+    // A hut's beds on a night, in the book that the log makes.
+    pub fn night(&self, hut: u64, night: u64) -> Result<Night, Refusal>
+        ensures { λ r. ⌜ Cases r
+            (λ n. (hut < 16) × (night < 366)
+            × (n .beds ≡ getD (bookOf (allOf (stateOf (now (self .entry)) .log)) .beds) (placeOf hut night) 0)
+            × (n .booked ≡ getD (bookOf (allOf (stateOf (now (self .entry)) .log)) .booked) (placeOf hut night) 0))
+            (λ e. (numberOf e ≡ 2) × ((hut < 16) × (night < 366) → ⊥)) ⌝ }
+    {
+        self.book.night(hut, night)
+    }
+
+    // What the entry with a mark has got; refused where it is not known (9).
+    pub fn got(&self, mark: &Mark) -> Result<Told, Refusal>
+        ensures { λ r. ⌜ Cases r
+            (λ t. ((p : ℕ) × (placeFrom 0 (plainMark (now (mark .entry))) (marksOf (stateOf (now (self .entry)))) ≡ Some p)
+            × (t .committed ≡ ltb p (length (stateOf (now (self .entry)) .log .committed)))
+            × (plainOutcome (t .outcome) ≡ getD (bookOf (allOf (stateOf (now (self .entry)) .log)) .outcomes) p nothing)))
+            (λ e. (numberOf e ≡ 9) × (placeFrom 0 (plainMark (now (mark .entry))) (marksOf (stateOf (now (self .entry)))) ≡ None)) ⌝ }
+    {
+        let Some(place) = self.book.find(mark) else {
+            return Err(Refusal::Unknown);
+        };
+        let Some(outcome) = self.book.outcome(place) else {
+            return Err(Refusal::Unknown);
+        };
+        Ok(Told {
+            committed: place < self.log.committed(),
+            outcome,
+        })
+    }
+}
