@@ -4,5 +4,6 @@ pub mod Known
 pub mod Marks
 pub mod Putting
 pub mod Rooms
+pub mod Settling
 pub mod Stamps
 pub mod Views

@@ -6,8 +6,8 @@ use mathlib.Core.Path.{_≡_, refl, sym, _∙_, ap}
 use Prim.Native.Nat.{ℕ, zero, suc, _+_, _<_, _≤_}
 use native.Mathlib.Omega.{arith}
 use lib.Dec.{eqb, ltb}
-use lib.ListN.{length, getD, drop}
-use Rattle.std.proofs.shelf.Tests.{and-parts, and-from, or-parts, cond-both, cases-bool}
+use lib.ListN.{length, getD, take, drop}
+use Rattle.std.proofs.shelf.Tests.{and-parts, and-from, or-parts, cond-both, cases-bool, eq-eqb}
 use Rattle.std.specs.shelf.Lists.{inserted, removed}
 use Rattle.bookings.specs.Books.{sameMark}
 use Rattle.bookings.specs.Plain.{PlainMark, PlainEntry}
@@ -51,6 +51,9 @@ times-into m e (f ∷ fs) =
 pub has-none : (m : PlainMark) (es : List PlainEntry) → has m es ≡ false → times m es ≡ 0
 has-none m [] new = refl
 has-none m (e ∷ es) new = let parts = or-parts (sameMark m (e .mark)) (has m es) new in rw (parts .0, has-none m es (parts .1)) refl
+
+pub same-self : (m : PlainMark) → sameMark m m ≡ true
+same-self m = and-from _ _ (eq-eqb (m .stamp) (m .stamp) refl) (eq-eqb (m .hut) (m .hut) refl)
 
 -- a mark that is the same counts as one
 pub one-more : (m n : PlainMark) → sameMark m n ≡ true → _≡_ {A = ℕ} (cond (sameMark m n) 1 0) 1
@@ -120,3 +123,17 @@ pub has-drop : (m : PlainMark) (n : ℕ) (es : List PlainEntry) → has m es ≡
 has-drop m zero es new = new
 has-drop m (suc n) [] new = refl
 has-drop m (suc n) (e ∷ es) new = has-drop m n es (or-parts (sameMark m (e .mark)) (has m es) new .1)
+
+-- a mark that no entry of a list has
+pub has-nowhere : (m : PlainMark) (es : List PlainEntry) → ((k : ℕ) (d : PlainEntry) → k < length es → sameMark m (getD es k d .mark) ≡ false) → has m es ≡ false
+has-nowhere m [] none = refl
+has-nowhere m (e ∷ es) none = rw (none 0 e (omega arith)) (has-nowhere m es (λ k d h. none (suc k) d (omega arith)))
+
+pub has-take : (m : PlainMark) (n : ℕ) (es : List PlainEntry) → has m es ≡ false → has m (take n es) ≡ false
+has-take m zero es new = refl
+has-take m (suc n) [] new = refl
+has-take m (suc n) (e ∷ es) new = let parts = or-parts (sameMark m (e .mark)) (has m es) new in rw (parts .0) (has-take m n es (parts .1))
+
+pub has-both : (m : PlainMark) (xs ys : List PlainEntry) → has m xs ≡ false → has m ys ≡ false → has m (xs ++ ys) ≡ false
+has-both m [] ys front back = back
+has-both m (x ∷ xs) ys front back = let parts = or-parts (sameMark m (x .mark)) (has m xs) front in rw (parts .0) (has-both m xs ys (parts .1) back)

@@ -29,10 +29,10 @@ into-last e (f ∷ fs) above =
     rw later (ap (λ l. f ∷ l) (into-last e fs (omega arith)))
 
 -- of one hut
-one-stamp : PlainEntry → ℕ → ℕ
+pub one-stamp : PlainEntry → ℕ → ℕ
 one-stamp e h = cond (eqb (e .mark .hut) h) (e .mark .stamp) 0
 
-highest-cons : (e : PlainEntry) (es : List PlainEntry) (h : ℕ) → highest (e ∷ es) h ≡ max (one-stamp e h) (highest es h)
+pub highest-cons : (e : PlainEntry) (es : List PlainEntry) (h : ℕ) → highest (e ∷ es) h ≡ max (one-stamp e h) (highest es h)
 unfolding one-stamp
 highest-cons e es h =
     ⊎-elim (λ same. rw (eq-eqb (e .mark .hut) h same) refl) (λ other. rw (ne-eqb (e .mark .hut) h other) (omega arith)) (cases-eq (e .mark .hut) h)
@@ -81,3 +81,17 @@ vector-more es fs e in-huts more =
     getD-set-other (vectorOf es) (e .mark .hut) h _ 0 apart ∙ was
     ∙ sym (is ∙ rw (ne-eqb (e .mark .hut) h other) refl))
     (cases-eq (e .mark .hut) h))
+
+-- put in anywhere, or taken out and put in again
+pub top-into : (e : PlainEntry) (es : List PlainEntry) → top (into e es) ≡ top (e ∷ es)
+top-into e [] = refl
+top-into e (f ∷ fs) =
+    let rest = top-into e fs in
+    cond-both (before (e .mark) (f .mark)) (e ∷ f ∷ fs) (f ∷ into e fs) (λ l. top l ≡ top (e ∷ f ∷ fs)) (λ _. refl) (λ _. omega arith)
+
+pub highest-into : (e : PlainEntry) (es : List PlainEntry) (h : ℕ) → highest (into e es) h ≡ highest (e ∷ es) h
+highest-into e [] h = refl
+highest-into e (f ∷ fs) h =
+    let rest = highest-into e fs h in
+    cond-both (before (e .mark) (f .mark)) (e ∷ f ∷ fs) (f ∷ into e fs) (λ l. highest l h ≡ highest (e ∷ f ∷ fs) h) (λ _. refl)
+    (λ _. omega (arith, highest-cons f (into e fs) h, highest-cons e (f ∷ fs) h, highest-cons f fs h, highest-cons e fs h))

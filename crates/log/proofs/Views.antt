@@ -2,7 +2,7 @@
 use mathlib.Core.List.{List, map}
 use mathlib.Core.Path.{_≡_, sym, _∙_, ap}
 use Prim.Native.Nat.{ℕ, _-_, _<_}
-use lib.ListN.{length, getD, take, drop}
+use lib.ListN.{length, getD, take, drop, length-drop}
 use Rattle.std.proofs.shelf.Lists.{getD-map, take-rest, drop-map}
 use Rattle.bookings.specs.declared.entry.Entry.{Entry}
 use Rattle.bookings.specs.Plain.{PlainEntry, plain, plainMark}
@@ -16,3 +16,6 @@ mark-there es i e h is = ap (λ (x : PlainEntry). x .mark) (entry-there es i e (
 -- the end of the log, as it is lent
 pub end-is : (lent es : List Entry) (c : ℕ) → lent ≡ es → map plain (take (length lent - c) (drop c lent)) ≡ drop c (map plain es)
 end-is lent es c is = ap (map plain) (take-rest lent c) ∙ sym (drop-map plain c lent) ∙ ap (λ l. drop c (map plain l)) is
+
+pub end-long : (lent : List Entry) (c : ℕ) → length (take (length lent - c) (drop c lent)) ≡ length lent - c
+end-long lent c = ap length (take-rest lent c) ∙ length-drop c lent

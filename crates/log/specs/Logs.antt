@@ -2,6 +2,8 @@
 use mathlib.Core.Bool.{Bool, true, false, cond, _||_}
 use mathlib.Core.List.{List, [], _∷_, _++_}
 use Prim.Native.Nat.{ℕ, zero, suc, max}
+use Rattle.std.specs.declared.option.Option.{Option}
+use Rattle.std.specs.declared.option.Option.the-variants.{None, Some}
 use Rattle.bookings.specs.Books.{sameMark}
 use Rattle.bookings.specs.Plain.{PlainMark, PlainEntry}
 use Rattle.log.specs.Order.{before}
@@ -50,3 +52,15 @@ addTentative e l = record { committed = l .committed; tentative = into e (l .ten
 
 abbrev pub addCommitted : PlainEntry → PlainLog → PlainLog
 addCommitted e l = record { committed = l .committed ++ e ∷ []; tentative = without (e .mark) (l .tentative) }
+
+-- the first tentative entry becomes committed
+abbrev pub firstMark : List PlainEntry → Option PlainMark
+firstMark [] = None
+firstMark (e ∷ es) = Some (e .mark)
+
+abbrev pub commitFirstOf : List PlainEntry → PlainLog → PlainLog
+commitFirstOf [] l = l
+commitFirstOf (e ∷ es) l = addCommitted e l
+
+abbrev pub commitFirst : PlainLog → PlainLog
+commitFirst l = commitFirstOf (l .tentative) l

@@ -1,9 +1,13 @@
 // The order of marks, and where a mark stands in a list of entries in that order.
-ghost use mathlib.Core.Bool.{true};
+ghost use mathlib.Core.Bool.{true, false};
 ghost use mathlib.Core.List.{map};
 ghost use mathlib.Core.Path.{_≡_};
-ghost use Rattle.bookings.specs.Plain.{plain, plainMark};
-ghost use Rattle.log.specs.Logs.{spot};
+ghost use Prim.Native.Nat.{_<_};
+ghost use lib.ListN.{length, getD};
+ghost use Rattle.std.specs.Options.{Cases as BySome};
+ghost use Rattle.bookings.specs.Books.{sameMark};
+ghost use Rattle.bookings.specs.Plain.{PlainEntry, plain, plainMark};
+ghost use Rattle.log.specs.Logs.{has, spot};
 ghost use Rattle.log.specs.Order.{before, ascends};
 use bookings::entry::Entry;
 use bookings::entry::Mark;
@@ -27,4 +31,17 @@ pub fn spot_of(part: &[Entry], mark: &Mark) -> usize
         }
     }
     0
+}
+
+// The place of the entry with a mark.
+pub fn position_of(part: &[Entry], mark: &Mark) -> Option<usize>
+    ensures { λ r. ⌜ BySome r (has (plainMark (now (mark .entry))) (map plain (now (part .entry))) ≡ false)
+        (λ p. (p < length (now (part .entry))) × ((d : PlainEntry) → sameMark (plainMark (now (mark .entry))) (getD (map plain (now (part .entry))) p d .mark) ≡ true)) ⌝ }
+{
+    for (i, entry) in part.iter().enumerate() {
+        if mark.is_same(&entry.mark) {
+            return Some(i);
+        }
+    }
+    None
 }

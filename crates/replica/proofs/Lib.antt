@@ -1,2 +1,4 @@
 pub mod Making
+pub mod Redoing
 pub mod Stepped
+pub mod Taking

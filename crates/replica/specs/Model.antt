@@ -1,5 +1,5 @@
 -- A replica as its number and its log: what each call does, and which it refuses.
-use mathlib.Core.Bool.{Bool, true, false, cond, _||_, not}
+use mathlib.Core.Bool.{Bool, true, false, cond, _&&_, _||_, not}
 use mathlib.Core.List.{List, map}
 use Prim.Native.Nat.{ℕ, suc, _+_}
 use lib.Dec.{leb, ltb, eqb}
@@ -8,7 +8,8 @@ use Rattle.std.specs.declared.option.Option.{Option}
 use Rattle.std.specs.declared.option.Option.the-variants.{None, Some}
 use Rattle.bookings.specs.Books.{namedBy}
 use Rattle.bookings.specs.Plain.{PlainMark, PlainKind, PlainEntry}
-use Rattle.log.specs.Logs.{PlainLog, emptyLog, allOf, has, top, addTentative}
+use Rattle.log.specs.Logs.{PlainLog, emptyLog, allOf, has, top, addTentative, addCommitted, commitFirst}
+use Rattle.log.specs.Vectors.{vectorOf, covers, joinedWith}
 
 pub record State : Type 0 where
   pub hut : ℕ
@@ -53,3 +54,33 @@ namesUnknown (Some m) s = not (has m (allOf (s .log)))
 
 abbrev pub makeRefusal : PlainKind → State → Option ℕ
 makeRefusal k s = cond (noRoom s (nextMark s .stamp)) (Some 8) (cond (namesUnknown (namedBy k) s) (Some 9) None)
+
+-- the first tentative entry is committed, at hut 0 alone
+abbrev pub commits : State → State
+commits s = record { hut = s .hut; log = commitFirst (s .log) }
+
+abbrev pub isPrimary : State → Bool
+isPrimary s = eqb (s .hut) 0
+
+-- another's tentative entry, with the vector of what stood before it
+abbrev pub takeTentativeRefusal : PlainEntry → List ℕ → State → Option ℕ
+takeTentativeRefusal e stood s =
+    cond (has (e .mark) (allOf (s .log))) (Some 3)
+    (cond (not (covers (vectorOf (allOf (s .log))) stood)) (Some 5) (cond (noRoom s (e .mark .stamp)) (Some 8) None))
+
+-- a committed entry, with its place among the committed ones
+abbrev pub withCommitted : PlainEntry → State → State
+withCommitted e s = record { hut = s .hut; log = addCommitted e (s .log) }
+
+abbrev pub takeCommittedRefusal : ℕ → PlainEntry → State → Option ℕ
+takeCommittedRefusal place e s =
+    cond (has (e .mark) (s .log .committed)) (Some 3)
+    (cond (not (eqb place (length (s .log .committed)))) (Some 4)
+    (cond (not (has (e .mark) (s .log .tentative)) && noRoom s (e .mark .stamp)) (Some 8) None))
+
+-- a guest with a slip is served where the replica knows as much, and is told what it knows
+abbrev pub serves : List ℕ → State → Bool
+serves slip s = covers (vectorOf (allOf (s .log))) slip
+
+abbrev pub slipAfter : List ℕ → State → List ℕ
+slipAfter slip s = joinedWith slip (vectorOf (allOf (s .log)))

@@ -10,6 +10,7 @@ use log::log::Log;
 
 mod makes;
 mod reads;
+mod takes;
 
 #[derive(Drop)]
 pub struct Replica {
