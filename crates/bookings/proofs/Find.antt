@@ -102,3 +102,6 @@ place-mark m i p (n ∷ ns) e = is-step m n i p ns (sameMark m n) refl (place-ma
 
 pub place-is : (m : PlainMark) (i p : ℕ) (ms : List PlainMark) → placeFrom i m ms ≡ Some p → (p < i + length ms) × (m ≡ getD ms (p - i) m)
 place-is m i p ms e = (place-within m i p ms e .1, place-mark m i p ms e)
+
+pub place-low : (m : PlainMark) (i p : ℕ) (ms : List PlainMark) → placeFrom i m ms ≡ Some p → i ≤ p
+place-low m i p ms e = place-within m i p ms e .0

@@ -4,6 +4,7 @@ ghost use Prim.Native.Nat.{_+_, _≤_, _<_};
 ghost use lib.ListN.{length};
 
 mod checks;
+mod same;
 
 // What an entry is known by: a Lamport timestamp, and the hut that made it.
 #[derive(Clone, Copy)]

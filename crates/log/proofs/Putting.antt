@@ -137,3 +137,22 @@ has-take m (suc n) (e ∷ es) new = let parts = or-parts (sameMark m (e .mark)) 
 pub has-both : (m : PlainMark) (xs ys : List PlainEntry) → has m xs ≡ false → has m ys ≡ false → has m (xs ++ ys) ≡ false
 has-both m [] ys front back = back
 has-both m (x ∷ xs) ys front back = let parts = or-parts (sameMark m (x .mark)) (has m xs) front in rw (parts .0) (has-both m xs ys (parts .1) back)
+
+-- taking out an entry that stands once leaves one fewer
+pub length-without : (m : PlainMark) (es : List PlainEntry) → has m es ≡ true → times m es ≤ 1 → length (without m es) + 1 ≡ length es
+length-without m [] there few = absurd (let z : _≡_ {A = ℕ} 0 1 = cc in omega arith)
+length-without m (e ∷ es) there few =
+    ⊎-elim
+    (λ same.
+        let none : times m es ≡ 0 = omega (arith, one-more m (e .mark) same) in
+        let rest = ap length (without-none m es (none-has m es none)) in
+        rw same (omega arith))
+    (λ other.
+        let rest = length-without m es (rw other at there) (omega (arith, none-more m (e .mark) other)) in
+        rw other (omega arith))
+    (cases-bool (sameMark m (e .mark)))
+
+pub has-some : (m : PlainMark) (es : List PlainEntry) → has m es ≡ true → 1 ≤ times m es
+has-some m [] there = absurd (let z : _≡_ {A = ℕ} 0 1 = cc in omega arith)
+has-some m (e ∷ es) there =
+    ⊎-elim (λ same. omega (arith, one-more m (e .mark) same)) (λ other. omega (arith, has-some m es (rw other at there))) (cases-bool (sameMark m (e .mark)))

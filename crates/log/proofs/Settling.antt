@@ -13,7 +13,7 @@ use Rattle.std.specs.shelf.Lists.{inserted, removed}
 use Rattle.bookings.proofs.Find.{same-is}
 use Rattle.bookings.specs.Books.{sameMark}
 use Rattle.bookings.specs.Plain.{PlainMark, PlainEntry}
-use Rattle.log.specs.Logs.{PlainLog, has, without, addCommitted, firstMark, commitFirstOf, commitFirst}
+use Rattle.log.specs.Logs.{PlainLog, has, without, addCommitted, firstMark, firstEntry, commitFirstOf, commitFirst}
 use Rattle.log.specs.Order.{allBehind, ascends, times, Once}
 use Rattle.log.specs.Room.{movedTo}
 use Rattle.log.proofs.Putting.{times-append, times-without, times-gone, has-none, one-more, none-more, without-removed, without-none, none-has, same-self}
@@ -95,6 +95,9 @@ module _ (xs : List PlainEntry) (c : ℕ) (e : PlainEntry) (there : c < length x
   pub next-mark : firstMark (drop c xs) ≡ Some (e .mark)
   next-mark = ap firstMark next-is
 
+  pub next-entry : firstEntry (drop c xs) ≡ Some e
+  next-entry = ap firstEntry next-is
+
   pub next-ascends : ascends (drop c xs) ≡ true → ascends (drop (c + 1) xs) ≡ true
   next-ascends sorted = and-parts (allBehind (e .mark) (drop (c + 1) xs)) (ascends (drop (c + 1) xs)) (ap ascends (sym next-is) ∙ sorted) .1
 
@@ -111,3 +114,8 @@ module _ (xs : List PlainEntry) (c : ℕ) (e : PlainEntry) (there : c < length x
 
 pub none-next : (xs : List PlainEntry) (c : ℕ) → length xs ≤ c → (cutAt c xs ≡ commitFirst (cutAt c xs)) × (None ≡ firstMark (drop c xs))
 none-next xs c past = let none = drop-all c xs past in (sym (ap (λ l. commitFirstOf l (cutAt c xs)) none), sym (ap firstMark none))
+
+-- to commit the first tentative entry is to add it as committed
+pub first-added : (e : PlainEntry) (l : PlainLog) (ts : List PlainEntry) → firstEntry ts ≡ Some e → commitFirstOf ts l ≡ addCommitted e l
+first-added e l [] is = absurd (let z : _≡_ {A = ℕ} 0 1 = cc in omega arith)
+first-added e l (f ∷ fs) is = let same : f ≡ e = cc in ap (λ x. addCommitted x l) same

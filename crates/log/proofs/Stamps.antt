@@ -9,10 +9,13 @@ use lib.Dec.{eqb, ltb}
 use lib.ListN.{length, getD, set, length-set}
 use Rattle.std.proofs.shelf.Counted.{length-map-counting, getD-map-counting}
 use Rattle.std.proofs.shelf.Lists.{same-lists, getD-default, getD-set-same, getD-set-other}
-use Rattle.std.proofs.shelf.Tests.{cases-eq, cond-both, eq-eqb, ne-eqb, le-ltb}
+use Rattle.std.proofs.shelf.Tests.{cases-eq, cases-bool, cond-both, eq-eqb, ne-eqb, le-ltb}
 use Rattle.std.specs.Iters.{counting}
 use Rattle.bookings.specs.Plain.{PlainMark, PlainEntry}
-use Rattle.log.specs.Logs.{top, into}
+use Rattle.log.specs.Logs.{top, into, has, without}
+use Rattle.log.proofs.Putting.{without-none}
+use Rattle.bookings.proofs.Find.{same-is}
+use Rattle.bookings.specs.Books.{sameMark}
 use Rattle.log.specs.Order.{before}
 use Rattle.log.specs.Vectors.{highest, vectorOf, noStamps, noted}
 
@@ -28,12 +31,17 @@ into-last e (f ∷ fs) above =
     rw (le-ltb (e .mark .stamp) (f .mark .stamp) (omega arith), ne-eqb (e .mark .stamp) (f .mark .stamp) (λ same. omega arith)) refl in
     rw later (ap (λ l. f ∷ l) (into-last e fs (omega arith)))
 
--- of one hut
-pub one-stamp : PlainEntry → ℕ → ℕ
-one-stamp e h = cond (eqb (e .mark .hut) h) (e .mark .stamp) 0
+-- the stamp of one mark, as the highest of a hut
+abbrev pub stamp-at : PlainMark → ℕ → ℕ
+stamp-at m h = cond (eqb (m .hut) h) (m .stamp) 0
+
+abbrev pub one-stamp : PlainEntry → ℕ → ℕ
+one-stamp e h = stamp-at (e .mark) h
+
+stamp-own : (m : PlainMark) → stamp-at m (m .hut) ≡ m .stamp
+stamp-own m = rw (eq-eqb (m .hut) (m .hut) refl) refl
 
 pub highest-cons : (e : PlainEntry) (es : List PlainEntry) (h : ℕ) → highest (e ∷ es) h ≡ max (one-stamp e h) (highest es h)
-unfolding one-stamp
 highest-cons e es h =
     ⊎-elim (λ same. rw (eq-eqb (e .mark .hut) h same) refl) (λ other. rw (ne-eqb (e .mark .hut) h other) (omega arith)) (cases-eq (e .mark .hut) h)
 
@@ -95,3 +103,47 @@ highest-into e (f ∷ fs) h =
     let rest = highest-into e fs h in
     cond-both (before (e .mark) (f .mark)) (e ∷ f ∷ fs) (f ∷ into e fs) (λ l. highest l h ≡ highest (e ∷ f ∷ fs) h) (λ _. refl)
     (λ _. omega (arith, highest-cons f (into e fs) h, highest-cons e (f ∷ fs) h, highest-cons f fs h, highest-cons e fs h))
+
+-- an entry with a mark that a list has, in the place of the one with that mark
+pub top-without : (m : PlainMark) (es : List PlainEntry) → has m es ≡ true → max (m .stamp) (top (without m es)) ≡ top es
+top-without m [] there = absurd (let z : _≡_ {A = ℕ} 0 1 = cc in omega arith)
+top-without m (e ∷ es) there =
+    ⊎-elim
+    (λ same.
+        let stamp : m .stamp ≡ e .mark .stamp = ap (λ (x : PlainMark). x .stamp) (same-is m (e .mark) same) in
+        rw same
+        (⊎-elim (λ again. omega (arith, top-without m es again)) (λ new. let rest = ap top (without-none m es new) in omega arith) (cases-bool (has m es))))
+    (λ other.
+        let later : has m es ≡ true = rw other at there in
+        let rest = top-without m es later in
+        rw other (omega arith))
+    (cases-bool (sameMark m (e .mark)))
+
+pub highest-without : (e : PlainEntry) (es : List PlainEntry) (h : ℕ) → has (e .mark) es ≡ true → highest (e ∷ without (e .mark) es) h ≡ highest es h
+highest-without e [] h there = absurd (let z : _≡_ {A = ℕ} 0 1 = cc in omega arith)
+highest-without e (f ∷ es) h there =
+    ⊎-elim
+    (λ same.
+        let mark = same-is (e .mark) (f .mark) same in
+        let alike : one-stamp e h ≡ one-stamp f h = ap (λ (m : PlainMark). stamp-at m h) mark in
+        rw same
+        (⊎-elim (λ again. omega (arith, highest-without e es h again, highest-cons f es h, highest-cons e (without (e .mark) es) h))
+        (λ new. let rest = ap (λ l. highest l h) (without-none (e .mark) es new) in omega (arith, highest-cons f es h, highest-cons e (without (e .mark) es) h))
+        (cases-bool (has (e .mark) es))))
+    (λ other.
+        let later : has (e .mark) es ≡ true = rw other at there in
+        let rest = highest-without e es h later in
+        rw other (omega (arith, highest-cons e (f ∷ without (e .mark) es) h, highest-cons f (without (e .mark) es) h, highest-cons e (without (e .mark) es) h, highest-cons f es h)))
+    (cases-bool (sameMark (e .mark) (f .mark)))
+
+-- a mark that stands in a list has a stamp no higher than the highest of its hut
+pub has-low : (m : PlainMark) (es : List PlainEntry) → has m es ≡ true → m .stamp ≤ highest es (m .hut)
+has-low m [] there = absurd (let z : _≡_ {A = ℕ} 0 1 = cc in omega arith)
+has-low m (e ∷ es) there =
+    ⊎-elim
+    (λ same.
+        let mark = same-is m (e .mark) same in
+        let own : one-stamp e (m .hut) ≡ m .stamp = ap (λ (x : PlainMark). stamp-at x (m .hut)) (sym mark) ∙ stamp-own m in
+        omega (arith, highest-cons e es (m .hut)))
+    (λ other. omega (arith, has-low m es (rw other at there), highest-cons e es (m .hut)))
+    (cases-bool (sameMark m (e .mark)))

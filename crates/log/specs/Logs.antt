@@ -58,6 +58,10 @@ abbrev pub firstMark : List PlainEntry → Option PlainMark
 firstMark [] = None
 firstMark (e ∷ es) = Some (e .mark)
 
+abbrev pub firstEntry : List PlainEntry → Option PlainEntry
+firstEntry [] = None
+firstEntry (e ∷ es) = Some e
+
 abbrev pub commitFirstOf : List PlainEntry → PlainLog → PlainLog
 commitFirstOf [] l = l
 commitFirstOf (e ∷ es) l = addCommitted e l

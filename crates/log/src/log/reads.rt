@@ -1,9 +1,11 @@
 // What a log is asked.
+ghost use mathlib.Core.Bool.{true};
 ghost use mathlib.Core.List.{map};
 ghost use mathlib.Core.Path.{_≡_};
 ghost use lib.ListN.{length};
+ghost use Rattle.std.specs.declared.option.Option.the-variants.{Some};
 ghost use Rattle.bookings.specs.Plain.{plain};
-ghost use Rattle.log.specs.Logs.{allOf};
+ghost use Rattle.log.specs.Logs.{allOf, firstEntry};
 ghost use Rattle.log.specs.Views.{logIn};
 use super::Log;
 use bookings::entry::Entry;
@@ -21,5 +23,16 @@ impl Log {
         ensures { λ r. ⌜ map plain (now r) ≡ allOf (logIn (now (self .entry))) ⌝ }
     {
         self.entries.as_slice()
+    }
+
+    // Whether the first tentative entry is this very one; where it says so, it is.
+    pub fn is_next(&self, entry: &Entry) -> bool
+        ensures { λ r. ⌜ (r ≡ true → firstEntry (logIn (now (self .entry)) .tentative) ≡ Some (plain (now («entry» .entry)))) ⌝ }
+    {
+        if self.committed >= self.entries.len() {
+            return false;
+        }
+        let next = self.entries[self.committed];
+        next.is_same(entry)
     }
 }
