@@ -7,7 +7,7 @@ use Prim.Native.Nat.{ℕ, zero, suc, _+_, _<_, _≤_}
 use native.Mathlib.Omega.{arith}
 use lib.Dec.{eqb, ltb}
 use lib.ListN.{length, getD, take, drop}
-use Rattle.std.proofs.shelf.Tests.{and-parts, and-from, or-parts, cond-both, cases-bool, eq-eqb}
+use Rattle.std.proofs.shelf.Tests.{and-parts, and-from, or-parts, or-from, cond-both, cases-bool, eq-eqb}
 use Rattle.std.specs.shelf.Lists.{inserted, removed}
 use Rattle.bookings.specs.Books.{sameMark}
 use Rattle.bookings.specs.Plain.{PlainMark, PlainEntry}
@@ -144,15 +144,27 @@ length-without m [] there few = absurd (let z : _≡_ {A = ℕ} 0 1 = cc in omeg
 length-without m (e ∷ es) there few =
     ⊎-elim
     (λ same.
-        let none : times m es ≡ 0 = omega (arith, one-more m (e .mark) same) in
-        let rest = ap length (without-none m es (none-has m es none)) in
-        rw same (omega arith))
+    let none : times m es ≡ 0 = omega (arith, one-more m (e .mark) same) in
+    let rest = ap length (without-none m es (none-has m es none)) in
+    rw same (omega arith))
     (λ other.
-        let rest = length-without m es (rw other at there) (omega (arith, none-more m (e .mark) other)) in
-        rw other (omega arith))
+    let rest = length-without m es (rw other at there) (omega (arith, none-more m (e .mark) other)) in
+    rw other (omega arith))
     (cases-bool (sameMark m (e .mark)))
 
 pub has-some : (m : PlainMark) (es : List PlainEntry) → has m es ≡ true → 1 ≤ times m es
 has-some m [] there = absurd (let z : _≡_ {A = ℕ} 0 1 = cc in omega arith)
 has-some m (e ∷ es) there =
     ⊎-elim (λ same. omega (arith, one-more m (e .mark) same)) (λ other. omega (arith, has-some m es (rw other at there))) (cases-bool (sameMark m (e .mark)))
+
+pub has-parts : (m : PlainMark) (xs ys : List PlainEntry) → has m (xs ++ ys) ≡ false → (has m xs ≡ false) × (has m ys ≡ false)
+has-parts m [] ys new = (refl, new)
+has-parts m (x ∷ xs) ys new =
+    let parts = or-parts (sameMark m (x .mark)) (has m (xs ++ ys)) new in
+    let rest = has-parts m xs ys (parts .1) in
+    (or-from _ _ (parts .0) (rest .0), rest .1)
+
+-- a mark that stands in a list and not in its first part stands in the second
+pub has-second : (m : PlainMark) (xs ys : List PlainEntry) → has m (xs ++ ys) ≡ true → has m xs ≡ false → has m ys ≡ true
+has-second m [] ys there new = there
+has-second m (x ∷ xs) ys there new = let parts = or-parts (sameMark m (x .mark)) (has m xs) new in has-second m xs ys (rw (parts .0) at there) (parts .1)

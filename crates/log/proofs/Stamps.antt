@@ -110,13 +110,13 @@ top-without m [] there = absurd (let z : _≡_ {A = ℕ} 0 1 = cc in omega arith
 top-without m (e ∷ es) there =
     ⊎-elim
     (λ same.
-        let stamp : m .stamp ≡ e .mark .stamp = ap (λ (x : PlainMark). x .stamp) (same-is m (e .mark) same) in
-        rw same
-        (⊎-elim (λ again. omega (arith, top-without m es again)) (λ new. let rest = ap top (without-none m es new) in omega arith) (cases-bool (has m es))))
+    let stamp : m .stamp ≡ e .mark .stamp = ap (λ (x : PlainMark). x .stamp) (same-is m (e .mark) same) in
+    rw same
+    (⊎-elim (λ again. omega (arith, top-without m es again)) (λ new. let rest = ap top (without-none m es new) in omega arith) (cases-bool (has m es))))
     (λ other.
-        let later : has m es ≡ true = rw other at there in
-        let rest = top-without m es later in
-        rw other (omega arith))
+    let later : has m es ≡ true = rw other at there in
+    let rest = top-without m es later in
+    rw other (omega arith))
     (cases-bool (sameMark m (e .mark)))
 
 pub highest-without : (e : PlainEntry) (es : List PlainEntry) (h : ℕ) → has (e .mark) es ≡ true → highest (e ∷ without (e .mark) es) h ≡ highest es h
@@ -124,16 +124,16 @@ highest-without e [] h there = absurd (let z : _≡_ {A = ℕ} 0 1 = cc in omega
 highest-without e (f ∷ es) h there =
     ⊎-elim
     (λ same.
-        let mark = same-is (e .mark) (f .mark) same in
-        let alike : one-stamp e h ≡ one-stamp f h = ap (λ (m : PlainMark). stamp-at m h) mark in
-        rw same
-        (⊎-elim (λ again. omega (arith, highest-without e es h again, highest-cons f es h, highest-cons e (without (e .mark) es) h))
-        (λ new. let rest = ap (λ l. highest l h) (without-none (e .mark) es new) in omega (arith, highest-cons f es h, highest-cons e (without (e .mark) es) h))
-        (cases-bool (has (e .mark) es))))
+    let mark = same-is (e .mark) (f .mark) same in
+    let alike : one-stamp e h ≡ one-stamp f h = ap (λ (m : PlainMark). stamp-at m h) mark in
+    rw same
+    (⊎-elim (λ again. omega (arith, highest-without e es h again, highest-cons f es h, highest-cons e (without (e .mark) es) h))
+    (λ new. let rest = ap (λ l. highest l h) (without-none (e .mark) es new) in omega (arith, highest-cons f es h, highest-cons e (without (e .mark) es) h))
+    (cases-bool (has (e .mark) es))))
     (λ other.
-        let later : has (e .mark) es ≡ true = rw other at there in
-        let rest = highest-without e es h later in
-        rw other (omega (arith, highest-cons e (f ∷ without (e .mark) es) h, highest-cons f (without (e .mark) es) h, highest-cons e (without (e .mark) es) h, highest-cons f es h)))
+    let later : has (e .mark) es ≡ true = rw other at there in
+    let rest = highest-without e es h later in
+    rw other (omega (arith, highest-cons e (f ∷ without (e .mark) es) h, highest-cons f (without (e .mark) es) h, highest-cons e (without (e .mark) es) h, highest-cons f es h)))
     (cases-bool (sameMark (e .mark) (f .mark)))
 
 -- a mark that stands in a list has a stamp no higher than the highest of its hut
@@ -142,8 +142,12 @@ has-low m [] there = absurd (let z : _≡_ {A = ℕ} 0 1 = cc in omega arith)
 has-low m (e ∷ es) there =
     ⊎-elim
     (λ same.
-        let mark = same-is m (e .mark) same in
-        let own : one-stamp e (m .hut) ≡ m .stamp = ap (λ (x : PlainMark). stamp-at x (m .hut)) (sym mark) ∙ stamp-own m in
-        omega (arith, highest-cons e es (m .hut)))
+    let mark = same-is m (e .mark) same in
+    let own : one-stamp e (m .hut) ≡ m .stamp = ap (λ (x : PlainMark). stamp-at x (m .hut)) (sym mark) ∙ stamp-own m in
+    omega (arith, highest-cons e es (m .hut)))
     (λ other. omega (arith, has-low m es (rw other at there), highest-cons e es (m .hut)))
     (cases-bool (sameMark m (e .mark)))
+
+pub vector-same : (es fs : List PlainEntry) → ((h : ℕ) → highest es h ≡ highest fs h) → vectorOf es ≡ vectorOf fs
+vector-same es fs same =
+    vectors-same (vectorOf es) (vectorOf fs) (vector-long es) (vector-long fs) (λ h in-huts. vector-at es h in-huts ∙ same h ∙ sym (vector-at fs h in-huts))

@@ -1,3 +1,4 @@
+pub mod Committing
 pub mod Making
 pub mod Redoing
 pub mod Stepped

@@ -3,7 +3,7 @@ use mathlib.Core.List.{List, [], _∷_, _++_, map}
 use mathlib.Core.Path.{_≡_, refl, sym, _∙_, ap, subst}
 use Prim.Native.Nat.{ℕ, _+_, _<_, _≤_, max}
 use native.Mathlib.Omega.{arith}
-use lib.ListN.{length, take, drop, length-append}
+use lib.ListN.{length, take, drop, length-append, length-map}
 use Rattle.std.proofs.shelf.Edits.{length-inserted}
 use Rattle.std.proofs.shelf.Lists.{append-assoc, take-at, drop-at, take-append-drop, length-take-le, take-append-le, take-all, drop-append-le}
 use Rattle.std.specs.Of.Vec.{vec-items}
@@ -16,6 +16,7 @@ use Rattle.log.proofs.Marks.{spot-within}
 use Rattle.log.proofs.Putting.{into-spot}
 use Rattle.log.proofs.Stamps.{top-append, top-into, highest-append, highest-cons, highest-into, vector-more}
 use Rattle.log.specs.Logs.{PlainLog, allOf, spot, into, top, addTentative}
+use Rattle.log.specs.Order.{Once}
 use Rattle.log.specs.Vectors.{vectorOf, noted, highest}
 use Rattle.log.specs.Views.{logIn}
 use Rattle.log.specs.declared.log.Log.{Log}
@@ -57,3 +58,11 @@ module _ (e : PlainEntry) (l : PlainLog) where
     where
       first-or-last : (h : ℕ) → max (highest (l .committed) h) (highest (e ∷ l .tentative) h) ≡ highest (e ∷ allOf l) h
       first-or-last h = omega (arith, highest-cons e (l .tentative) h, highest-cons e (allOf l) h, highest-append (l .committed) (l .tentative) h)
+
+-- each mark of a log stands once, and a log is never too long
+pub log-once : (l : Log) → Once (allOf (logIn l))
+log-once l = subst Once (sym (take-append-drop (l .committed) (map plain (vec-items (l .entries))))) (l .once)
+
+pub log-few : (l : Log) → length (allOf (logIn l)) ≤ 65536
+log-few l =
+    omega (arith, ap length (take-append-drop (l .committed) (map plain (vec-items (l .entries)))), length-map (vec-items (l .entries)) plain, l .entries .ok .0, l .room .0)

@@ -1,5 +1,5 @@
 -- A replica as its number and its log: what each call does, and which it refuses.
-use mathlib.Core.Bool.{Bool, true, false, cond, _&&_, _||_, not}
+use mathlib.Core.Bool.{Bool, true, false, cond, _||_, not}
 use mathlib.Core.List.{List, map}
 use Prim.Native.Nat.{ℕ, suc, _+_}
 use lib.Dec.{leb, ltb, eqb}
@@ -72,11 +72,11 @@ takeTentativeRefusal e stood s =
 abbrev pub withCommitted : PlainEntry → State → State
 withCommitted e s = record { hut = s .hut; log = addCommitted e (s .log) }
 
-abbrev pub takeCommittedRefusal : ℕ → PlainEntry → State → Option ℕ
-takeCommittedRefusal place e s =
-    cond (has (e .mark) (s .log .committed)) (Some 3)
+abbrev pub takeCommittedRefusal : ℕ → PlainMark → State → Option ℕ
+takeCommittedRefusal place m s =
+    cond (has m (s .log .committed)) (Some 3)
     (cond (not (eqb place (length (s .log .committed)))) (Some 4)
-    (cond (not (has (e .mark) (s .log .tentative)) && noRoom s (e .mark .stamp)) (Some 8) None))
+    (cond (has m (s .log .tentative)) None (cond (noRoom s (m .stamp)) (Some 8) None)))
 
 -- a guest with a slip is served where the replica knows as much, and is told what it knows
 abbrev pub serves : List ℕ → State → Bool

@@ -8,6 +8,7 @@ use crate::head::Head;
 use bookings::book::Book;
 use log::log::Log;
 
+mod finds;
 mod makes;
 mod reads;
 mod takes;

@@ -58,10 +58,27 @@ impl Kind {
         ensures { λ r. ⌜ (r ≡ true → plainKind (now (self .entry)) ≡ plainKind (now (other .entry))) ⌝ }
     {
         match (self, other) {
-            (Kind::Book { guest, choices }, Kind::Book { guest: other_guest, choices: others }) => *guest == *other_guest && choices.is_same(others),
+            (
+                Kind::Book { guest, choices },
+                Kind::Book {
+                    guest: other_guest,
+                    choices: others,
+                },
+            ) => *guest == *other_guest && choices.is_same(others),
             (Kind::Cancel { mark }, Kind::Cancel { mark: other_mark }) => mark.is_same(other_mark),
-            (Kind::Change { mark, choices }, Kind::Change { mark: other_mark, choices: others }) => mark.is_same(other_mark) && choices.is_same(others),
-            (Kind::Beds { supply }, Kind::Beds { supply: other_supply }) => supply.is_same(other_supply),
+            (
+                Kind::Change { mark, choices },
+                Kind::Change {
+                    mark: other_mark,
+                    choices: others,
+                },
+            ) => mark.is_same(other_mark) && choices.is_same(others),
+            (
+                Kind::Beds { supply },
+                Kind::Beds {
+                    supply: other_supply,
+                },
+            ) => supply.is_same(other_supply),
             _ => false,
         }
     }

@@ -7,7 +7,6 @@ ghost use Rattle.std.specs.declared.option.Option.the-variants.{None, Some};
 ghost use Rattle.bookings.specs.Books.{namedBy};
 ghost use Rattle.bookings.specs.Plain.{plainMark, plainKind};
 ghost use Rattle.bookings.specs.Refusals.{numberOf};
-ghost use Rattle.log.specs.Logs.{allOf, has};
 ghost use Rattle.replica.specs.Model.{fresh, made, nextMark, makeRefusal, namesUnknown};
 ghost use Rattle.replica.specs.Views.{stateOf};
 ghost use Rattle.replica.specs.declared.fault.Fault.the-variants.{Memory, Refused};
@@ -39,13 +38,6 @@ impl Replica {
             return Err(Fault::Memory);
         };
         Ok(Replica { head, log, book })
-    }
-
-    // Whether an entry with a mark is in the log.
-    pub fn knows(&self, mark: &Mark) -> bool
-        ensures { λ r. ⌜ r ≡ has (plainMark (now (mark .entry))) (allOf (stateOf (now (self .entry)) .log)) ⌝ }
-    {
-        self.book.find(mark).is_some()
     }
 
     // Whether a kind names a mark that is not known.

@@ -8,8 +8,8 @@ ghost use Rattle.std.specs.Results.{Cases};
 ghost use Rattle.std.specs.declared.option.Option.the-variants.{None, Some};
 ghost use Rattle.bookings.specs.Plain.{plain, plainMark};
 ghost use Rattle.bookings.specs.Refusals.{numberOf};
-ghost use Rattle.log.specs.Logs.{allOf, firstMark};
-ghost use Rattle.replica.specs.Model.{commits, isPrimary, withTentative, takeTentativeRefusal, noRoom};
+ghost use Rattle.log.specs.Logs.{allOf, firstMark, has};
+ghost use Rattle.replica.specs.Model.{commits, isPrimary, withTentative, withCommitted, takeTentativeRefusal, takeCommittedRefusal, noRoom};
 ghost use Rattle.replica.specs.Views.{stateOf};
 use super::Replica;
 use crate::redo::redo_from;
@@ -59,6 +59,58 @@ impl Replica {
         undo_to(&mut self.book, place);
         redo_from(&mut self.book, self.log.as_slice(), place);
         self.head = self.head.with(&entry.mark);
+        Ok(())
+    }
+
+    // Puts an entry that is tentative to the end of the committed ones.
+    fn settle_known(&mut self, entry: Entry)
+        requires new { ⌜ has (plain «entry» .mark) (stateOf (now self) .log .committed) ≡ false ⌝ }
+        requires known { ⌜ has (plain «entry» .mark) (stateOf (now self) .log .tentative) ≡ true ⌝ }
+        ensures { λ _. ⌜ stateOf (now (self .exit)) ≡ withCommitted (plain «entry») (stateOf (now (self .entry))) ⌝ }
+    {
+        if self.log.is_next(&entry) {
+            self.log.commit_first();
+            return;
+        }
+        let place = self.log.committed();
+        self.log.settle(entry);
+        undo_to(&mut self.book, place);
+        redo_from(&mut self.book, self.log.as_slice(), place);
+    }
+
+    // Puts an entry that is not known to the end of the committed ones.
+    fn settle_new(&mut self, entry: Entry)
+        requires new { ⌜ has (plain «entry» .mark) (allOf (stateOf (now self) .log)) ≡ false ⌝ }
+        requires room { ⌜ length (allOf (stateOf (now self) .log)) < 65536 ⌝ }
+        ensures { λ _. ⌜ stateOf (now (self .exit)) ≡ withCommitted (plain «entry») (stateOf (now (self .entry))) ⌝ }
+    {
+        let place = self.log.committed();
+        self.log.settle(entry);
+        undo_to(&mut self.book, place);
+        redo_from(&mut self.book, self.log.as_slice(), place);
+        self.head = self.head.with(&entry.mark);
+    }
+
+    // Takes a committed entry with its place: refused where it is committed (3), where the place is not the next (4), and where there is no room for one that is not known (8).
+    pub fn take_committed(&mut self, place: usize, entry: Entry) -> Result<(), Refusal>
+        ensures { λ r. ⌜ Cases r
+            (λ _. (takeCommittedRefusal place (plain «entry» .mark) (stateOf (now (self .entry))) ≡ None) × (stateOf (now (self .exit)) ≡ withCommitted (plain «entry») (stateOf (now (self .entry)))))
+            (λ e. (takeCommittedRefusal place (plain «entry» .mark) (stateOf (now (self .entry))) ≡ Some (numberOf e)) × (stateOf (now (self .exit)) ≡ stateOf (now (self .entry)))) ⌝ }
+    {
+        if self.has_committed(&entry.mark) {
+            return Err(Refusal::Known);
+        }
+        if place != self.log.committed() {
+            return Err(Refusal::NotNext);
+        }
+        if self.knows(&entry.mark) {
+            self.settle_known(entry);
+            return Ok(());
+        }
+        if self.has_no_room(entry.mark.stamp) {
+            return Err(Refusal::Full);
+        }
+        self.settle_new(entry);
         Ok(())
     }
 }

@@ -1,11 +1,10 @@
-use mathlib.Core.Path.{_∙_}
+use mathlib.Core.Path.{_∙_, ap}
 use Rattle.bookings.specs.Plain.{plainMark}
-use Rattle.bookings.specs.Views.{bookIn}
+use Rattle.std.specs.Options.{isSome}
+use Rattle.log.proofs.Known.{has-found}
 use Rattle.log.specs.Logs.{allOf}
 use Rattle.log.specs.Views.{logIn}
-use Rattle.replica.proofs.Stepped.{known-is}
 use Rattle.replica.proofs.replica.Replica.knows.Needs as need
 
 pub returns : need.returns
-returns c =
-    c .is-some .ensures ∙ known-is (bookIn (c .args .self .now .book)) (allOf (logIn (c .args .self .now .log))) (plainMark (c .args .mark .now)) _ (c .args .self .now .«in_step») (c .find .ensures)
+returns c = c .is-some .ensures ∙ ap isSome (c .find .ensures) ∙ has-found (plainMark (c .args .mark .now)) 0 (allOf (logIn (c .args .self .now .log)))
