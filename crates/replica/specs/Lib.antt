@@ -1,4 +1,5 @@
 pub mod Heads
 pub mod Model
+pub mod Parcels
 pub mod Steps
 pub mod Views

@@ -1,4 +1,5 @@
 // What a replica is asked.
+ghost use mathlib.Core.Bool.{true, false};
 ghost use mathlib.Core.List.{map};
 ghost use mathlib.Core.Path.{_≡_};
 ghost use Prim.Native.Nat.{ℕ, _<_, _≤_};
@@ -12,7 +13,8 @@ ghost use Rattle.bookings.specs.Outcomes.{nothing, plainOutcome};
 ghost use Rattle.bookings.specs.Plain.{plain, plainMark};
 ghost use Rattle.bookings.specs.Refusals.{numberOf};
 ghost use Rattle.log.specs.Logs.{allOf};
-ghost use Rattle.replica.specs.Model.{marksOf};
+ghost use Rattle.log.specs.Vectors.{vectorOf};
+ghost use Rattle.replica.specs.Model.{marksOf, serves, slipAfter};
 ghost use Rattle.replica.specs.Views.{stateOf};
 use super::Replica;
 use bookings::book::Night;
@@ -20,12 +22,20 @@ use bookings::entry::Entry;
 use bookings::entry::Mark;
 use bookings::outcome::Outcome;
 use bookings::refusal::Refusal;
+use log::vector::Vector;
 
 // What came of an entry, and whether it is committed.
 #[derive(Clone, Copy)]
 pub struct Told {
     pub committed: bool,
     pub outcome: Outcome,
+}
+
+// What a replica has: how many entries are committed, and the highest stamp of each hut.
+#[derive(Clone, Copy)]
+pub struct Summary {
+    pub committed: usize,
+    pub vector: Vector,
 }
 
 impl Replica {
@@ -78,5 +88,30 @@ impl Replica {
             committed: place < self.log.committed(),
             outcome,
         })
+    }
+
+    // What the replica has, as it tells others.
+    pub fn summary(&self) -> Summary
+        ensures committed { λ r. ⌜ r .committed ≡ length (stateOf (now (self .entry)) .log .committed) ⌝ }
+        ensures vector { λ r. ⌜ r .vector .stamps ≡ vectorOf (allOf (stateOf (now (self .entry)) .log)) ⌝ }
+    {
+        Summary {
+            committed: self.log.committed(),
+            vector: self.head.seen,
+        }
+    }
+
+    // Serves a guest with a slip, and gives the slip with all that the replica knows; refused where the slip knows more (7).
+    pub fn serve(&self, slip: Vector) -> Result<Vector, Refusal>
+        ensures { λ r. ⌜ Cases r
+            (λ v. (serves (slip .stamps) (stateOf (now (self .entry))) ≡ true) × (v .stamps ≡ slipAfter (slip .stamps) (stateOf (now (self .entry)))))
+            (λ e. (serves (slip .stamps) (stateOf (now (self .entry))) ≡ false) × (numberOf e ≡ 7)) ⌝ }
+    {
+        if !self.head.seen.covers(&slip) {
+            return Err(Refusal::SlipAhead);
+        }
+        let mut after = slip;
+        after.join(&self.head.seen);
+        Ok(after)
     }
 }
