@@ -9,6 +9,7 @@ use bookings::book::Book;
 use log::log::Log;
 
 mod finds;
+mod hands;
 mod makes;
 mod reads;
 mod takes;

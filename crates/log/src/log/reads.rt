@@ -25,6 +25,22 @@ impl Log {
         self.entries.as_slice()
     }
 
+    // The committed entries, in their order.
+    pub fn committed_part(&self) -> &[Entry]
+        ensures { λ r. ⌜ map plain (now r) ≡ logIn (now (self .entry)) .committed ⌝ }
+    {
+        let entries = self.entries.as_slice();
+        &entries[0..self.committed]
+    }
+
+    // The tentative entries, by their marks.
+    pub fn tentative_part(&self) -> &[Entry]
+        ensures { λ r. ⌜ map plain (now r) ≡ logIn (now (self .entry)) .tentative ⌝ }
+    {
+        let entries = self.entries.as_slice();
+        &entries[self.committed..]
+    }
+
     // Whether the first tentative entry is this very one; where it says so, it is.
     pub fn is_next(&self, entry: &Entry) -> bool
         ensures { λ r. ⌜ (r ≡ true → firstEntry (logIn (now (self .entry)) .tentative) ≡ Some (plain (now («entry» .entry)))) ⌝ }

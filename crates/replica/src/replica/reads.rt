@@ -14,6 +14,8 @@ ghost use Rattle.bookings.specs.Plain.{plain, plainMark};
 ghost use Rattle.bookings.specs.Refusals.{numberOf};
 ghost use Rattle.log.specs.Logs.{allOf};
 ghost use Rattle.log.specs.Vectors.{vectorOf};
+ghost use Rattle.log.specs.Order.{Once};
+ghost use Rattle.replica.specs.Laws.{Sorted};
 ghost use Rattle.replica.specs.Model.{marksOf, serves, slipAfter};
 ghost use Rattle.replica.specs.Views.{stateOf};
 use super::Replica;
@@ -52,9 +54,11 @@ impl Replica {
         self.log.committed()
     }
 
-    // The log, the committed entries first.
+    // The log, the committed entries first; always the tentative ones are sorted, and each mark stands once.
     pub fn entries(&self) -> &[Entry]
-        ensures { λ r. ⌜ map plain (now r) ≡ allOf (stateOf (now (self .entry)) .log) ⌝ }
+        ensures log { λ r. ⌜ map plain (now r) ≡ allOf (stateOf (now (self .entry)) .log) ⌝ }
+        ensures sorted { λ _. ⌜ Sorted (stateOf (now (self .entry)) .log .tentative) ⌝ }
+        ensures once { λ _. ⌜ Once (allOf (stateOf (now (self .entry)) .log)) ⌝ }
     {
         self.log.as_slice()
     }
