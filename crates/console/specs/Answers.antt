@@ -63,6 +63,8 @@ formText verbs.Line = codes "line"
 abbrev pub expectedText : Expected → List ℕ
 expectedText expected.Command = codes "expected a command: huts, at, book, cancel, change, beds, show, got or line"
 expectedText (expected.Form v) = codes "expected: " ++ formText v
+expectedText expected.HutsFirst = codes "expected huts first"
+expectedText expected.HutsOnce = codes "expected huts only once"
 
 abbrev pub gotText : Got → List ℕ
 gotText (gots.Choice c h a b k) =

@@ -5,6 +5,8 @@ use bookings::refusal::Refusal;
 mod kinds;
 mod shows;
 
+pub use self::shows::AnswerDisplay;
+
 #[derive(Clone, Copy)]
 pub enum Answer {
     // An entry was made, with that mark.
@@ -62,7 +64,7 @@ pub enum KindName {
 pub enum Got {
     // A choice, counted from 1, with its first and its last night.
     Choice {
-        number: u8,
+        number: u16,
         hut: u8,
         first: u16,
         last: u16,

@@ -27,4 +27,7 @@ pub enum Command {
 pub enum Expected {
     Command,
     Form { verb: Verb },
+    // The huts of a rehearsal are named before all else, and not again.
+    HutsFirst,
+    HutsOnce,
 }

@@ -145,6 +145,8 @@ impl fmt::Display for Expected as ExpectedDisplay {
                 "expected a command: huts, at, book, cancel, change, beds, show, got or line",
             ),
             Expected::Form { verb } => write!(f, "expected: {verb}"),
+            Expected::HutsFirst => f.write_str("expected huts first"),
+            Expected::HutsOnce => f.write_str("expected huts only once"),
         }
     }
 }
