@@ -1,11 +1,14 @@
 -- Some replicas, and which of them is meant.
 use mathlib.Core.List.{List, map}
+use mathlib.Core.Logic.{_⊎_}
 use mathlib.Core.Path.{_≡_}
 use Prim.Native.Nat.{ℕ, _<_, _≤_}
 use lib.ListN.{length, getD, set}
+use Rattle.std.specs.declared.option.Option.the-variants.{Some}
 use Rattle.bookings.specs.Plain.{PlainKind}
 use Rattle.bookings.specs.Refusals.{numberOf}
-use Rattle.replica.specs.Model.{State, fresh, made}
+use Rattle.console.specs.Checks.{RequestOk}
+use Rattle.replica.specs.Model.{State, fresh, made, makeRefusal}
 use Rattle.replica.specs.declared.fault.Fault.{Fault}
 use Rattle.replica.specs.declared.fault.Fault.the-variants.{Memory, Refused}
 
@@ -33,6 +36,10 @@ opening hs = record { states = map fresh hs; current = 0 }
 
 abbrev pub meant : Scene → State
 meant s = getD (s .states) (s .current) (fresh 0)
+
+-- the number by which a replica refuses what it is asked to enter: 2 where it is out of range, and else as it refuses to make it
+abbrev pub EnterRefused : PlainKind → State → ℕ → Type 0
+EnterRefused k s n = ((n ≡ 2) × (RequestOk k → ⊥)) ⊎ (RequestOk k × (makeRefusal k s ≡ Some n))
 
 -- the one that is meant makes an entry
 abbrev pub entered : PlainKind → Scene → Scene

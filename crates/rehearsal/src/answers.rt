@@ -1,20 +1,17 @@
 // What a replica is asked, answered in lines.
-ghost use mathlib.Core.Bool.{cond, _&&_};
 ghost use mathlib.Core.Path.{_≡_};
-ghost use Prim.Native.Nat.{ℕ, _<_};
-ghost use lib.Dec.{eqb, ltb};
-ghost use lib.ListN.{length, getD};
+ghost use Prim.Native.Nat.{_<_};
+ghost use lib.Dec.{ltb};
 ghost use Rattle.std.specs.Results.{Cases};
-ghost use Rattle.std.specs.declared.option.Option.the-variants.{None, Some};
-ghost use Rattle.bookings.specs.Books.{bookOf, placeFrom};
-ghost use Rattle.bookings.specs.Outcomes.{nothing, plainOutcome};
-ghost use Rattle.bookings.specs.Plain.{plainMark, plainKind};
+ghost use Rattle.std.specs.declared.option.Option.the-variants.{Some};
+ghost use Rattle.bookings.specs.Books.{bookOf};
+ghost use Rattle.bookings.specs.Outcomes.{plainOutcome};
 ghost use Rattle.bookings.specs.Refusals.{numberOf};
 ghost use Rattle.console.specs.Answers.{kindNameOf};
+ghost use Rattle.console.specs.Requests.{markOf};
 ghost use Rattle.log.specs.Logs.{allOf};
-ghost use Rattle.replica.specs.Model.{marksOf};
 ghost use Rattle.replica.specs.Views.{stateOf};
-ghost use Rattle.rehearsal.specs.Told.{standingOf, gotOf, nightTold, notedOn};
+ghost use Rattle.rehearsal.specs.Told.{AskedOk, GotRefused, standingOf, gotOf, gotIn, nightTold, notedOn};
 use bookings::entry::Entry;
 use bookings::entry::Mark;
 use bookings::outcome::Outcome;
@@ -73,7 +70,11 @@ pub fn logged(place: usize, entry: &Entry, committed: usize) -> Answer
 }
 
 // What the entry with a mark has got; refused where the mark is out of range (2) or not known (9).
-pub fn got(replica: &Replica, stamp: u64, hut: u64) -> Result<Answer, Refusal> {
+pub fn got(replica: &Replica, stamp: u64, hut: u64) -> Result<Answer, Refusal>
+    ensures { λ r. ⌜ Cases r
+        (λ a. AskedOk (markOf stamp hut) × (gotIn (stateOf (now (replica .entry))) (markOf stamp hut) ≡ Some a))
+        (λ e. GotRefused (stateOf (now (replica .entry))) (markOf stamp hut) (numberOf e)) ⌝ }
+{
     let mark = Mark::new(stamp, hut)?;
     let told = replica.got(&mark)?;
     Ok(Answer::Got {
@@ -95,7 +96,7 @@ fn standing_of(committed: bool) -> Standing
 }
 
 // What an outcome is in words.
-pub fn got_of(outcome: &Outcome) -> Got
+fn got_of(outcome: &Outcome) -> Got
     ensures { λ r. ⌜ r ≡ gotOf (plainOutcome (now (outcome .entry))) ⌝ }
 {
     match outcome {
