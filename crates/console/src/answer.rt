@@ -1,6 +1,7 @@
 // What a program answers: one line each.
 use crate::command::Expected;
 use bookings::refusal::Refusal;
+use log::vector::Vector;
 
 mod kinds;
 mod shows;
@@ -16,6 +17,18 @@ pub enum Answer {
     },
     Refused {
         why: Refusal,
+    },
+    // The entry with that mark was committed, and stands at that place.
+    Inked {
+        stamp: u32,
+        hut: u8,
+        place: usize,
+    },
+    NothingTentative,
+    // How many entries are committed, and the highest stamp of each hut.
+    Have {
+        committed: usize,
+        vector: Vector,
     },
     // The beds of a hut on a night, and how many are booked.
     Night {
@@ -40,6 +53,10 @@ pub enum Answer {
         hut: u8,
         standing: Standing,
         got: Got,
+    },
+    // A guest was served, who has that slip now.
+    Served {
+        slip: Vector,
     },
     Error {
         expected: Expected,

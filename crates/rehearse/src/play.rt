@@ -84,6 +84,12 @@ fn answer(out: &mut impl Write, cast: &mut Cast, command: &Command) -> io::Resul
             say_or_refuse(out, answers::got(cast.meant(), *stamp, *hut))
         }
         Command::Line => say_log(out, cast.meant()),
+        Command::Ink | Command::Have | Command::Serve { .. } => say(
+            out,
+            Answer::Error {
+                expected: Expected::Command,
+            },
+        ),
     }
 }
 
