@@ -1,6 +1,7 @@
 // What each line of the script does, and what is written for it.
 use crate::say::say;
 use crate::say::say_book;
+use crate::say::say_error;
 use crate::say::say_log;
 use crate::say::say_or_refuse;
 use console::answer::Answer;
@@ -26,7 +27,7 @@ pub fn play(
     let command = match read_command(line) {
         Ok(command) => command,
         Err(expected) => {
-            say(out, Answer::Error { expected })?;
+            say_error(out, expected)?;
             return Ok(());
         }
     };
@@ -51,12 +52,7 @@ fn open(
             Err(Fault::Refused(why)) => say(out, Answer::Refused { why })?,
             Err(Fault::Memory) => return Err("no memory for the huts".into()),
         },
-        _ => say(
-            out,
-            Answer::Error {
-                expected: Expected::HutsFirst,
-            },
-        )?,
+        _ => say_error(out, Expected::HutsFirst)?,
     }
     Ok(())
 }
@@ -65,12 +61,7 @@ fn open(
 fn answer(out: &mut impl Write, cast: &mut Cast, command: &Command) -> io::Result<()> {
     match command {
         Command::Pass => Ok(()),
-        Command::Huts { .. } => say(
-            out,
-            Answer::Error {
-                expected: Expected::HutsOnce,
-            },
-        ),
+        Command::Huts { .. } => say_error(out, Expected::HutsOnce),
         Command::At { hut } => match cast.at(*hut) {
             Ok(()) => Ok(()),
             Err(why) => say(out, Answer::Refused { why }),
@@ -84,12 +75,10 @@ fn answer(out: &mut impl Write, cast: &mut Cast, command: &Command) -> io::Resul
             say_or_refuse(out, answers::got(cast.meant(), *stamp, *hut))
         }
         Command::Line => say_log(out, cast.meant()),
-        Command::Ink | Command::Have | Command::Serve { .. } => say(
-            out,
-            Answer::Error {
-                expected: Expected::Command,
-            },
-        ),
+        // Not played yet.
+        Command::Ink | Command::Have | Command::Serve { .. } => {
+            say_error(out, Expected::Command)
+        }
     }
 }
 

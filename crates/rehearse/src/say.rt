@@ -3,6 +3,7 @@ ghost use Prim.Native.Nat.{_<_};
 use bookings::refusal::Refusal;
 use console::answer::Answer;
 use console::answer::AnswerDisplay;
+use console::command::Expected;
 use rehearsal::answers;
 use replica::replica::Replica;
 use std::io;
@@ -17,6 +18,10 @@ pub fn say_or_refuse(out: &mut impl Write, told: Result<Answer, Refusal>) -> io:
         Ok(answer) => say(out, answer),
         Err(why) => say(out, Answer::Refused { why }),
     }
+}
+
+pub fn say_error(out: &mut impl Write, expected: Expected) -> io::Result<()> {
+    say(out, Answer::Error { expected })
 }
 
 // The nights of a hut that are not as at first.
