@@ -3,7 +3,9 @@ pub mod Digits
 pub mod FoursOn
 pub mod InRange
 pub mod NumbersOn
+pub mod Pieces
 pub mod ReadBack
 pub mod SaidBy
 pub mod SpacesMore
+pub mod StampsOn
 pub mod WordBounds

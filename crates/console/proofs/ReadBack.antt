@@ -3,7 +3,7 @@ use mathlib.Core.List.{List, [], _∷_, _++_, map, append-assoc}
 use mathlib.Core.Path.{_≡_, refl, sym, _∙_, ap}
 use Prim.Native.Nat.{ℕ, zero, suc, _+_, _*_, _≤_}
 use native.Mathlib.Omega.{arith}
-use borrow.Author.Tests.{ne-eqb, le-ltb}
+use borrow.Author.Tests.{eq-eqb, ne-eqb, le-ltb}
 use lib.ListN.{length}
 use Rattle.std.proofs.shelf.Lists.{append-nil}
 use Rattle.std.specs.declared.option.Option.the-variants.{Some}
@@ -12,8 +12,8 @@ use Rattle.std.specs.Written.{decimal}
 use Rattle.bookings.specs.Plain.{PlainChoice, PlainKind, book, cancel, change, supply}
 use Rattle.bookings.specs.Ranges.{Each}
 use Rattle.console.specs.declared.verb.Verb.{Verb}
-use Rattle.console.specs.declared.verb.Verb.the-variants.{Huts, At, Book, Cancel, Change, Beds, Show, Got, Line}
-use Rattle.console.specs.Commands.{Said, pass, huts, at, make, showNight, show, got, log, saidBy, inForm, withNumbers, byWords, parsed}
+use Rattle.console.specs.declared.verb.Verb.the-variants.{Huts, At, Book, Cancel, Change, Beds, Ink, Have, Show, Line, Got, Serve}
+use Rattle.console.specs.Commands.{Said, pass, huts, at, make, ink, have, showNight, show, log, got, serve, saidBy, inForm, withNumbers, byWords, parsed}
 use Rattle.console.specs.Lines.{spaced, written, choiceNumbers, requestLine, lineOf, TenDigits, RequestSayable, Sayable}
 use Rattle.console.specs.Numbers.{numbersOf}
 use Rattle.console.specs.Requests.{fours, choicesOf}
@@ -59,9 +59,12 @@ name-then Book ws further = word-then _ _ [] ws tt further
 name-then Cancel ws further = word-then _ _ [] ws tt further
 name-then Change ws further = word-then _ _ [] ws tt further
 name-then Beds ws further = word-then _ _ [] ws tt further
+name-then Ink ws further = word-then _ _ [] ws tt further
+name-then Have ws further = word-then _ _ [] ws tt further
 name-then Show ws further = word-then _ _ [] ws tt further
-name-then Got ws further = word-then _ _ [] ws tt further
 name-then Line ws further = word-then _ _ [] ws tt further
+name-then Got ws further = word-then _ _ [] ws tt further
+name-then Serve ws further = word-then _ _ [] ws tt further
 
 name-says : (v : Verb) (ws : List (List ℕ)) → byWords (nameOf v ∷ ws) ≡ inForm v (withNumbers v (numbersOf 18 ws))
 name-says Huts ws = refl
@@ -70,9 +73,12 @@ name-says Book ws = refl
 name-says Cancel ws = refl
 name-says Change ws = refl
 name-says Beds ws = refl
+name-says Ink ws = refl
+name-says Have ws = refl
 name-says Show ws = refl
-name-says Got ws = refl
 name-says Line ws = refl
+name-says Got ws = refl
+name-says Serve ws = refl
 
 -- a verb and numbers say what they say in that form
 written-says : (v : Verb) (ns : List ℕ) → length ns ≤ 18 → Each TenDigits ns → parsed (written v ns) ≡ inForm v (saidBy v ns)
@@ -111,7 +117,10 @@ lines-read-back (huts hs) h =
     written-says Huts hs (omega arith) (h .0) ∙ rw (ne-eqb (length hs) 0 (omega arith), le-ltb 4 (length hs) (h .2)) refl
 lines-read-back (at n) h = written-says At (n ∷ []) (omega arith) (h, tt)
 lines-read-back (make k) h = request-reads-back k h
+lines-read-back ink h = written-says Ink [] (omega arith) tt
+lines-read-back have h = written-says Have [] (omega arith) tt
 lines-read-back (showNight n m) h = written-says Show (n ∷ m ∷ []) (omega arith) (h .0, (h .1, tt))
 lines-read-back show h = written-says Show [] (omega arith) tt
-lines-read-back (got m) h = written-says Got (m .stamp ∷ m .hut ∷ []) (omega arith) (h .0, (h .1, tt))
 lines-read-back log h = written-says Line [] (omega arith) tt
+lines-read-back (got m) h = written-says Got (m .stamp ∷ m .hut ∷ []) (omega arith) (h .0, (h .1, tt))
+lines-read-back (serve ns) h = written-says Serve ns (omega arith) (h .0) ∙ rw (eq-eqb (length ns) 16 (h .1)) refl

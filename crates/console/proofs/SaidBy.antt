@@ -6,10 +6,11 @@ use native.Mathlib.Omega.{arith}
 use borrow.Author.Tests.{ne-eqb, le-ltb}
 use lib.ListN.{length, getD, drop}
 use Rattle.std.specs.declared.option.Option.{Option}
-use Rattle.std.specs.declared.option.Option.the-variants.{Some}
-use Rattle.std.specs.declared.result.Result.the-variants.{Ok}
+use Rattle.std.specs.declared.option.Option.the-variants.{None, Some}
+use Rattle.std.specs.declared.result.Result.the-variants.{Ok, Err}
 use Rattle.bookings.specs.Plain.{PlainChoice}
 use Rattle.console.specs.Commands.{Said, bookWith, bookOf, changeWith, changeOf, withNumbers, byWords, parsed}
+use Rattle.console.specs.declared.command.Expected.the-variants.{Form}
 use Rattle.console.specs.declared.verb.Verb.{Verb}
 use Rattle.console.specs.Lines.{Comments-say-nothing}
 use Rattle.console.specs.Numbers.{numbersOf}
@@ -32,6 +33,11 @@ pub line-says :
     (line word rest : List ℕ) (v : Verb) (s : Said) → words line ≡ word ∷ words rest → (getD word 0 0 ≡ 35 → ⊥) → Some v ≡ verbOf word
     → Some s ≡ withNumbers v (numbersOf 18 (words rest)) → Ok s ≡ parsed line
 line-says line word rest v s line-is plain v-is s-is = rw (line-is, ne-eqb (getD word 0 0) 35 plain, sym v-is, sym s-is) refl
+
+pub line-formless :
+    (line word rest : List ℕ) (v : Verb) → words line ≡ word ∷ words rest → (getD word 0 0 ≡ 35 → ⊥) → Some v ≡ verbOf word
+    → None ≡ withNumbers v (numbersOf 18 (words rest)) → Err (Form v) ≡ parsed line
+line-formless line word rest v line-is plain v-is none = rw (line-is, ne-eqb (getD word 0 0) 35 plain, sym v-is, sym none) refl
 
 pub comments-say-nothing : Comments-say-nothing
 comments-say-nothing text = ap byWords (begun-word 35 [] text)

@@ -1,5 +1,5 @@
 -- The text of an answer.
-use mathlib.Core.List.{List, _++_}
+use mathlib.Core.List.{List, _++_, map}
 use Prim.Native.Nat.{ℕ}
 use lib.Chars.{codes}
 use Rattle.std.specs.Written.{decimal}
@@ -18,6 +18,7 @@ use Rattle.console.specs.declared.answer.Standing.{Standing}
 use Rattle.console.specs.declared.answer.Standing.the-variants as standings
 use Rattle.console.specs.declared.command.Expected.{Expected}
 use Rattle.console.specs.declared.command.Expected.the-variants as expected
+use Rattle.console.specs.Lines.{spaced}
 use Rattle.console.specs.declared.verb.Verb.{Verb}
 use Rattle.console.specs.declared.verb.Verb.the-variants as verbs
 
@@ -56,13 +57,22 @@ formText verbs.Book = codes "book G, then up to four choices H N K B"
 formText verbs.Cancel = codes "cancel S H"
 formText verbs.Change = codes "change S H, then up to four choices H N K B"
 formText verbs.Beds = codes "beds H N K B"
+formText verbs.Ink = codes "ink"
+formText verbs.Have = codes "have"
 formText verbs.Show = codes "show, or show H N"
-formText verbs.Got = codes "got S H"
 formText verbs.Line = codes "line"
+formText verbs.Got = codes "got S H"
+formText verbs.Serve = codes "serve S0 .. S15"
 
 abbrev pub expectedText : Expected → List ℕ
-expectedText expected.Command = codes "expected a command: huts, at, book, cancel, change, beds, show, got or line"
+expectedText expected.Command = codes "expected a command: huts, at, book, cancel, change, beds, ink, have, show, line, got or serve"
 expectedText (expected.Form v) = codes "expected: " ++ formText v
+expectedText expected.HutsFirst = codes "expected huts first"
+expectedText expected.HutsOnce = codes "expected huts only once"
+
+-- stamps, each with a space before it
+unfoldable pub stampsText : List ℕ → List ℕ
+stampsText ns = spaced (map decimal ns)
 
 abbrev pub gotText : Got → List ℕ
 gotText (gots.Choice c h a b k) =
@@ -75,6 +85,9 @@ gotText gots.NotABooking = codes "not a booking"
 abbrev pub answerText : Answer → List ℕ
 answerText (answers.Made s h) = codes "made " ++ (decimal s ++ (codes " " ++ decimal h))
 answerText (answers.Refused why) = codes "refused " ++ (decimal (numberOf why) ++ (codes ": " ++ reasonText why))
+answerText (answers.Inked s h p) = codes "inked " ++ (decimal s ++ (codes " " ++ (decimal h ++ (codes " at " ++ decimal p))))
+answerText answers.NothingTentative = codes "nothing in pencil"
+answerText (answers.Have c v) = codes "have " ++ (decimal c ++ stampsText (v .stamps))
 answerText (answers.Night h n b k) =
     codes "hut " ++ (decimal h ++ (codes " night " ++ (decimal n ++ (codes ": " ++ (decimal b ++ (codes " beds, " ++ (decimal k ++ codes " booked")))))))
 answerText answers.EndOfBook = codes "end of book"
@@ -83,4 +96,5 @@ answerText (answers.Logged p s h t k) =
 answerText answers.EndOfLog = codes "end of line"
 answerText (answers.Got s h t g) =
     decimal s ++ (codes " " ++ (decimal h ++ (codes " " ++ (standingText t ++ (codes ": " ++ gotText g)))))
+answerText (answers.Served v) = codes "served" ++ stampsText (v .stamps)
 answerText (answers.Error e) = codes "error: " ++ expectedText e

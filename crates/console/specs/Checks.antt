@@ -1,6 +1,8 @@
 -- When a request is in range, and what comes of it.
 use mathlib.Core.Path.{_≡_}
+use mathlib.Core.List.{List}
 use Prim.Native.Nat.{ℕ, _<_}
+use lib.ListN.{length, getD}
 use Rattle.std.specs.declared.result.Result.{Result}
 use Rattle.std.specs.declared.result.Result.the-variants.{Ok, Err}
 use Rattle.bookings.specs.declared.entry.Kind.{Kind}
@@ -12,6 +14,9 @@ use Rattle.bookings.specs.Refusals.{numberOf}
 -- guests and stamps have 32 bits
 abbrev pub Fits32 : ℕ → Type 0
 Fits32 n = n < 4294967296
+
+abbrev pub StampsFit : List ℕ → Type 0
+StampsFit ns = (i : ℕ) → i < length ns → Fits32 (getD ns i 0)
 
 abbrev pub NumbersFit : PlainKind → Type 0
 NumbersFit (book g cs) = Fits32 g

@@ -14,7 +14,7 @@ use Rattle.console.specs.declared.command.Command.the-variants as commands
 use Rattle.console.specs.declared.command.Expected.{Expected}
 use Rattle.console.specs.declared.command.Expected.the-variants as expected
 use Rattle.console.specs.declared.verb.Verb.{Verb}
-use Rattle.console.specs.declared.verb.Verb.the-variants.{Huts, At, Book, Cancel, Change, Beds, Show, Got, Line}
+use Rattle.console.specs.declared.verb.Verb.the-variants.{Huts, At, Book, Cancel, Change, Beds, Ink, Have, Show, Line, Got, Serve}
 use Rattle.console.specs.Numbers.{numbersOf}
 use Rattle.console.specs.Requests.{markOf, choiceOf, choicesOf, asked}
 use Rattle.console.specs.Verbs.{verbOf}
@@ -25,10 +25,13 @@ pub data Said : Type 0 where
   huts : List ℕ → Said
   at : ℕ → Said
   make : PlainKind → Said
+  ink : Said
+  have : Said
   showNight : ℕ → ℕ → Said
   show : Said
-  got : PlainMark → Said
   log : Said
+  got : PlainMark → Said
+  serve : List ℕ → Said
 
 -- a command, without its layout
 abbrev pub said : Command → Said
@@ -36,10 +39,13 @@ said commands.Pass = pass
 said (commands.Huts ns) = huts (take (ns .count) (ns .all))
 said (commands.At h) = at h
 said (commands.Make r) = make (asked r)
+said commands.Ink = ink
+said commands.Have = have
 said (commands.ShowNight h n) = showNight h n
 said commands.Show = show
-said (commands.Got s h) = got (markOf s h)
 said commands.Line = log
+said (commands.Got s h) = got (markOf s h)
+said (commands.Serve v) = serve (v .all)
 
 -- what numbers say behind each verb, if their count is right
 abbrev pub hutsOf : List ℕ → Option Said
@@ -69,14 +75,18 @@ abbrev pub bedsOf : List ℕ → Option Said
 bedsOf ns =
     cond (eqb (length ns) 4) (Some (make (supply (choiceOf (getD ns 0 0) (getD ns 1 0) (getD ns 2 0) (getD ns 3 0))))) None
 
+-- of a verb that stands alone
+abbrev pub aloneOf : Said → List ℕ → Option Said
+aloneOf s ns = cond (eqb (length ns) 0) (Some s) None
+
 abbrev pub showOf : List ℕ → Option Said
 showOf ns = cond (eqb (length ns) 0) (Some show) (cond (eqb (length ns) 2) (Some (showNight (getD ns 0 0) (getD ns 1 0))) None)
 
 abbrev pub gotOf : List ℕ → Option Said
 gotOf ns = cond (eqb (length ns) 2) (Some (got (markOf (getD ns 0 0) (getD ns 1 0)))) None
 
-abbrev pub lineOf : List ℕ → Option Said
-lineOf ns = cond (eqb (length ns) 0) (Some log) None
+abbrev pub serveOf : List ℕ → Option Said
+serveOf ns = cond (eqb (length ns) 16) (Some (serve ns)) None
 
 abbrev pub saidBy : Verb → List ℕ → Option Said
 saidBy Huts ns = hutsOf ns
@@ -85,9 +95,12 @@ saidBy Book ns = bookOf ns
 saidBy Cancel ns = cancelOf ns
 saidBy Change ns = changeOf ns
 saidBy Beds ns = bedsOf ns
+saidBy Ink ns = aloneOf ink ns
+saidBy Have ns = aloneOf have ns
 saidBy Show ns = showOf ns
+saidBy Line ns = aloneOf log ns
 saidBy Got ns = gotOf ns
-saidBy Line ns = lineOf ns
+saidBy Serve ns = serveOf ns
 
 abbrev pub saidIf : Option Command → Option Said
 saidIf None = None

@@ -8,8 +8,8 @@ use Rattle.std.specs.declared.result.Result.the-variants.{Ok}
 use Rattle.bookings.specs.Plain.{PlainChoice, PlainKind, book, cancel, change, supply}
 use Rattle.bookings.specs.Ranges.{Each}
 use Rattle.console.specs.declared.verb.Verb.{Verb}
-use Rattle.console.specs.declared.verb.Verb.the-variants.{Huts, At, Book, Cancel, Change, Beds, Show, Got, Line}
-use Rattle.console.specs.Commands.{Said, pass, huts, at, make, showNight, show, got, log, parsed}
+use Rattle.console.specs.declared.verb.Verb.the-variants.{Huts, At, Book, Cancel, Change, Beds, Ink, Have, Show, Line, Got, Serve}
+use Rattle.console.specs.Commands.{Said, pass, huts, at, make, ink, have, showNight, show, log, got, serve, parsed}
 use Rattle.console.specs.Verbs.{nameOf}
 use Rattle.console.specs.Words.{space}
 
@@ -37,10 +37,13 @@ lineOf pass = []
 lineOf (huts hs) = written Huts hs
 lineOf (at h) = written At (h ∷ [])
 lineOf (make k) = requestLine k
+lineOf ink = written Ink []
+lineOf have = written Have []
 lineOf (showNight h n) = written Show (h ∷ n ∷ [])
 lineOf show = written Show []
-lineOf (got m) = written Got (m .stamp ∷ m .hut ∷ [])
 lineOf log = written Line []
+lineOf (got m) = written Got (m .stamp ∷ m .hut ∷ [])
+lineOf (serve ns) = written Serve ns
 
 -- ten digits write it
 abbrev pub TenDigits : ℕ → Type 0
@@ -57,10 +60,13 @@ Sayable pass = Unit {0}
 Sayable (huts hs) = Each TenDigits hs × (0 < length hs) × (length hs ≤ 4)
 Sayable (at h) = TenDigits h
 Sayable (make k) = RequestSayable k
+Sayable ink = Unit {0}
+Sayable have = Unit {0}
 Sayable (showNight h n) = TenDigits h × TenDigits n
 Sayable show = Unit {0}
-Sayable (got m) = TenDigits (m .stamp) × TenDigits (m .hut)
 Sayable log = Unit {0}
+Sayable (got m) = TenDigits (m .stamp) × TenDigits (m .hut)
+Sayable (serve ns) = Each TenDigits ns × (length ns ≡ 16)
 
 -- one space more, between words, in front or behind, changes nothing
 abbrev pub Spaces-do-not-matter : Type 0

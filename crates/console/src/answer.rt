@@ -1,9 +1,12 @@
 // What a program answers: one line each.
 use crate::command::Expected;
 use bookings::refusal::Refusal;
+use log::vector::Vector;
 
 mod kinds;
 mod shows;
+
+pub use self::shows::AnswerDisplay;
 
 #[derive(Clone, Copy)]
 pub enum Answer {
@@ -14,6 +17,18 @@ pub enum Answer {
     },
     Refused {
         why: Refusal,
+    },
+    // The entry with that mark was committed, and stands at that place.
+    Inked {
+        stamp: u32,
+        hut: u8,
+        place: usize,
+    },
+    NothingTentative,
+    // How many entries are committed, and the highest stamp of each hut.
+    Have {
+        committed: usize,
+        vector: Vector,
     },
     // The beds of a hut on a night, and how many are booked.
     Night {
@@ -39,6 +54,10 @@ pub enum Answer {
         standing: Standing,
         got: Got,
     },
+    // A guest was served, who has that slip now.
+    Served {
+        slip: Vector,
+    },
     Error {
         expected: Expected,
     },
@@ -62,7 +81,7 @@ pub enum KindName {
 pub enum Got {
     // A choice, counted from 1, with its first and its last night.
     Choice {
-        number: u8,
+        number: u16,
         hut: u8,
         first: u16,
         last: u16,

@@ -1,6 +1,7 @@
 // What a line asks for.
 use crate::numbers::Numbers;
 use crate::request::Request;
+use crate::vector::RawVector;
 use crate::verb::Verb;
 
 #[derive(Clone, Copy)]
@@ -13,13 +14,19 @@ pub enum Command {
     At { hut: u64 },
     // A new entry.
     Make { request: Request },
+    // The first tentative entry is to be committed.
+    Ink,
+    // What a replica has.
+    Have,
     // The book at one night, and all of it.
     ShowNight { hut: u64, night: u64 },
     Show,
-    // What an entry has got.
-    Got { stamp: u64, hut: u64 },
     // The log.
     Line,
+    // What an entry has got.
+    Got { stamp: u64, hut: u64 },
+    // A guest, with that slip.
+    Serve { slip: RawVector },
 }
 
 // What a line should have been.
@@ -27,4 +34,7 @@ pub enum Command {
 pub enum Expected {
     Command,
     Form { verb: Verb },
+    // The huts of a rehearsal are named before all else, and not again.
+    HutsFirst,
+    HutsOnce,
 }

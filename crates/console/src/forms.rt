@@ -1,12 +1,13 @@
 // The form of each command: which numbers stand behind its verb.
 ghost use mathlib.Core.Path.{_≡_};
 ghost use lib.ListN.{take};
-ghost use Rattle.console.specs.Commands.{saidIf, saidBy, hutsOf, atOf, bookOf, cancelOf, changeOf, bedsOf, showOf, gotOf, lineOf};
+ghost use Rattle.console.specs.Commands.{said, saidIf, saidBy, hutsOf, atOf, bookOf, cancelOf, changeOf, bedsOf, aloneOf, showOf, gotOf, serveOf};
 use crate::command::Command;
 use crate::numbers::Numbers;
 use crate::request::RawChoice;
 use crate::request::RawChoices;
 use crate::request::Request;
+use crate::vector::RawVector;
 use crate::verb::Verb;
 
 // The command of a verb and numbers, unless their count is wrong.
@@ -20,9 +21,12 @@ pub fn by_verb(verb: Verb, numbers: Numbers) -> Option<Command>
         Verb::Cancel => cancel(numbers.as_slice()),
         Verb::Change => change(numbers.as_slice()),
         Verb::Beds => beds(numbers.as_slice()),
+        Verb::Ink => alone(Command::Ink, numbers.as_slice()),
+        Verb::Have => alone(Command::Have, numbers.as_slice()),
         Verb::Show => show(numbers.as_slice()),
+        Verb::Line => alone(Command::Line, numbers.as_slice()),
         Verb::Got => got(numbers.as_slice()),
-        Verb::Line => log(numbers.as_slice()),
+        Verb::Serve => serve(numbers.as_slice()),
     }
 }
 
@@ -107,6 +111,16 @@ fn beds(numbers: &[u64]) -> Option<Command>
     Some(Command::Make { request })
 }
 
+// A verb that stands alone.
+fn alone(command: Command, numbers: &[u64]) -> Option<Command>
+    ensures { λ r. ⌜ saidIf r ≡ aloneOf (said command) (now (numbers .entry)) ⌝ }
+{
+    match numbers {
+        [] => Some(command),
+        _ => None,
+    }
+}
+
 fn show(numbers: &[u64]) -> Option<Command>
     ensures { λ r. ⌜ saidIf r ≡ showOf (now (numbers .entry)) ⌝ }
 {
@@ -132,11 +146,11 @@ fn got(numbers: &[u64]) -> Option<Command>
     }
 }
 
-fn log(numbers: &[u64]) -> Option<Command>
-    ensures { λ r. ⌜ saidIf r ≡ lineOf (now (numbers .entry)) ⌝ }
+fn serve(numbers: &[u64]) -> Option<Command>
+    ensures { λ r. ⌜ saidIf r ≡ serveOf (now (numbers .entry)) ⌝ }
 {
-    match numbers {
-        [] => Some(Command::Line),
-        _ => None,
+    match RawVector::read(numbers) {
+        Some(slip) => Some(Command::Serve { slip }),
+        None => None,
     }
 }

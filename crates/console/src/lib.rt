@@ -7,5 +7,6 @@ pub mod line;
 mod number;
 pub mod numbers;
 pub mod request;
+pub mod vector;
 pub mod verb;
 mod words;

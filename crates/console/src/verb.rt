@@ -1,7 +1,7 @@
 // What a line's first word asks for.
 ghost use mathlib.Core.Path.{_≡_};
 ghost use Rattle.std.specs.shelf.Text.{sameBytes};
-ghost use Rattle.console.specs.Verbs.{verbOf};
+ghost use Rattle.console.specs.Verbs.{verbOf, otherVerbOf};
 
 #[derive(Clone, Copy)]
 pub enum Verb {
@@ -11,9 +11,12 @@ pub enum Verb {
     Cancel,
     Change,
     Beds,
+    Ink,
+    Have,
     Show,
-    Got,
     Line,
+    Got,
+    Serve,
 }
 
 // The verb that a word names.
@@ -38,14 +41,29 @@ pub(crate) fn read_verb(word: &[u8]) -> Option<Verb>
     if is(word, b"beds") {
         return Some(Verb::Beds);
     }
+    read_other_verb(word)
+}
+
+fn read_other_verb(word: &[u8]) -> Option<Verb>
+    ensures { λ r. ⌜ r ≡ otherVerbOf (now (word .entry)) ⌝ }
+{
+    if is(word, b"ink") {
+        return Some(Verb::Ink);
+    }
+    if is(word, b"have") {
+        return Some(Verb::Have);
+    }
     if is(word, b"show") {
         return Some(Verb::Show);
+    }
+    if is(word, b"line") {
+        return Some(Verb::Line);
     }
     if is(word, b"got") {
         return Some(Verb::Got);
     }
-    if is(word, b"line") {
-        return Some(Verb::Line);
+    if is(word, b"serve") {
+        return Some(Verb::Serve);
     }
     None
 }

@@ -2,7 +2,7 @@
 ghost use mathlib.Core.Path.{_≡_};
 ghost use Rattle.std.specs.declared.option.Option.the-variants.{Some};
 ghost use Rattle.bookings.specs.Refusals.{numberOf};
-ghost use Rattle.console.specs.Answers.{answerText, gotText, standingText, kindText, reasonText, expectedText, formText};
+ghost use Rattle.console.specs.Answers.{answerText, stampsText, gotText, standingText, kindText, reasonText, expectedText, formText};
 use super::Answer;
 use super::Got;
 use super::KindName;
@@ -10,6 +10,7 @@ use super::Standing;
 use crate::command::Expected;
 use crate::verb::Verb;
 use bookings::refusal::Refusal;
+use log::vector::Vector;
 use std::fmt;
 
 pub impl fmt::Display for Answer as AnswerDisplay {
@@ -19,10 +20,15 @@ pub impl fmt::Display for Answer as AnswerDisplay {
         match self {
             Answer::Made { stamp, hut } => write!(f, "made {stamp} {hut}"),
             Answer::Refused { why } => {
-                let number = number(*why);
-                let reason = Reason { why: *why };
-                write!(f, "refused {number}: {reason}")
+                write!(f, "refused {}: {}", number(*why), Reason { why: *why })
             }
+            Answer::Inked { stamp, hut, place } => write!(f, "inked {stamp} {hut} at {place}"),
+            Answer::NothingTentative => f.write_str("nothing in pencil"),
+            Answer::Have { committed, vector } => write!(
+                f,
+                "have {committed}{}",
+                Stamps { vector: *vector }
+            ),
             Answer::Night {
                 hut,
                 night,
@@ -44,8 +50,27 @@ pub impl fmt::Display for Answer as AnswerDisplay {
                 standing,
                 got,
             } => write!(f, "{stamp} {hut} {standing}: {got}"),
+            Answer::Served { slip } => write!(f, "served{}", Stamps { vector: *slip }),
             Answer::Error { expected } => write!(f, "error: {expected}"),
         }
+    }
+}
+
+// The stamps of a vector, each with a space before it.
+#[derive(Clone, Copy)]
+struct Stamps {
+    vector: Vector,
+}
+
+impl fmt::Display for Stamps as StampsDisplay {
+    ghost shown = { λ s. Some (stampsText (s .vector .stamps)) };
+
+    fn fmt<W: fmt::Write>(&self, f: &mut fmt::Formatter<W>) -> fmt::Result {
+        let stamps = self.vector.stamps();
+        for stamp in &stamps {
+            write!(f, " {stamp}")?;
+        }
+        Ok(())
     }
 }
 
@@ -142,9 +167,11 @@ impl fmt::Display for Expected as ExpectedDisplay {
     fn fmt<W: fmt::Write>(&self, f: &mut fmt::Formatter<W>) -> fmt::Result {
         match self {
             Expected::Command => f.write_str(
-                "expected a command: huts, at, book, cancel, change, beds, show, got or line",
+                "expected a command: huts, at, book, cancel, change, beds, ink, have, show, line, got or serve",
             ),
             Expected::Form { verb } => write!(f, "expected: {verb}"),
+            Expected::HutsFirst => f.write_str("expected huts first"),
+            Expected::HutsOnce => f.write_str("expected huts only once"),
         }
     }
 }
@@ -161,9 +188,12 @@ impl fmt::Display for Verb as FormDisplay {
             Verb::Cancel => f.write_str("cancel S H"),
             Verb::Change => f.write_str("change S H, then up to four choices H N K B"),
             Verb::Beds => f.write_str("beds H N K B"),
+            Verb::Ink => f.write_str("ink"),
+            Verb::Have => f.write_str("have"),
             Verb::Show => f.write_str("show, or show H N"),
-            Verb::Got => f.write_str("got S H"),
             Verb::Line => f.write_str("line"),
+            Verb::Got => f.write_str("got S H"),
+            Verb::Serve => f.write_str("serve S0 .. S15"),
         }
     }
 }

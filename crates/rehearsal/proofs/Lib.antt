@@ -1,0 +1,2 @@
+pub mod Huts
+pub mod Placed

@@ -1,0 +1,3 @@
+// A rehearsal: some huts in memory, and what they answer.
+pub mod answers;
+pub mod cast;
