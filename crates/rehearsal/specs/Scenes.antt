@@ -8,7 +8,7 @@ use Rattle.std.specs.declared.option.Option.the-variants.{Some}
 use Rattle.bookings.specs.Plain.{PlainKind}
 use Rattle.bookings.specs.Refusals.{numberOf}
 use Rattle.console.specs.Checks.{RequestOk}
-use Rattle.replica.specs.Model.{State, fresh, made, makeRefusal}
+use Rattle.replica.specs.Model.{State, fresh, made, makeRefusal, commits}
 use Rattle.replica.specs.declared.fault.Fault.{Fault}
 use Rattle.replica.specs.declared.fault.Fault.the-variants.{Memory, Refused}
 
@@ -44,3 +44,7 @@ EnterRefused k s n = ((n ≡ 2) × (RequestOk k → ⊥)) ⊎ (RequestOk k × (m
 -- the one that is meant makes an entry
 abbrev pub entered : PlainKind → Scene → Scene
 entered k s = record { states = set (s .states) (s .current) (made k (meant s)); current = s .current }
+
+-- the one that is meant commits
+abbrev pub committed : Scene → Scene
+committed s = record { states = set (s .states) (s .current) (commits (meant s)); current = s .current }

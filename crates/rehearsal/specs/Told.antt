@@ -1,5 +1,6 @@
 -- What a replica's book and log say, as answers.
 use mathlib.Core.Bool.{Bool, true, false, cond, _&&_}
+use mathlib.Core.List.{List}
 use mathlib.Core.Logic.{_⊎_}
 use mathlib.Core.Path.{_≡_}
 use Prim.Native.Nat.{ℕ, _+_, _-_}
@@ -12,7 +13,7 @@ use Rattle.bookings.specs.Nights.{placeOf}
 use Rattle.bookings.specs.Outcomes.{PlainGrant, PlainOutcome, holds, nothing, cancelled, changed, freed, resized}
 use Rattle.bookings.specs.Plain.{PlainMark}
 use Rattle.bookings.specs.Ranges.{MarkOk}
-use Rattle.console.specs.Checks.{Fits32}
+use Rattle.console.specs.Checks.{Fits32, StampsFit}
 use Rattle.console.specs.declared.answer.Answer.{Answer}
 use Rattle.console.specs.declared.answer.Answer.the-variants as answers
 use Rattle.console.specs.declared.answer.Got.{Got}
@@ -20,7 +21,8 @@ use Rattle.console.specs.declared.answer.Got.the-variants as gots
 use Rattle.console.specs.declared.answer.Standing.{Standing}
 use Rattle.console.specs.declared.answer.Standing.the-variants as standings
 use Rattle.log.specs.Logs.{allOf}
-use Rattle.replica.specs.Model.{State, marksOf}
+use Rattle.log.specs.declared.vector.Vector.{Vector}
+use Rattle.replica.specs.Model.{State, marksOf, serves, slipAfter}
 
 abbrev pub standingOf : Bool → Standing
 standingOf true = standings.Committed
@@ -66,3 +68,16 @@ isPlain b hut night = eqb (getD (b .beds) (placeOf hut night) 0) 20 && eqb (getD
 -- a night is listed unless it is as in the first book
 abbrev pub notedOn : PlainBook → ℕ → ℕ → Option Answer
 notedOn b hut night = cond (isPlain b hut night) None (Some (nightTold b hut night))
+
+-- what is said of a mark that was committed, and where there was none
+abbrev pub inkedAt : ℕ → Option PlainMark → Answer
+inkedAt place None = answers.NothingTentative
+inkedAt place (Some m) = answers.Inked (m .stamp) (m .hut) place
+
+-- a guest with a slip in range, which knows no more than the replica, has all that it knows noted on it
+abbrev pub ServedBy : State → List ℕ → Answer → Type 0
+ServedBy s slip a = StampsFit slip × (serves slip s ≡ true) × ((v : Vector) × (a ≡ answers.Served v) × (v .stamps ≡ slipAfter slip s))
+
+-- refused by 2 where the slip is out of range, and by 7 where it knows more
+abbrev pub ServeRefused : State → List ℕ → ℕ → Type 0
+ServeRefused s slip n = ((n ≡ 2) × (StampsFit slip → ⊥)) ⊎ (StampsFit slip × (n ≡ 7) × (serves slip s ≡ false))

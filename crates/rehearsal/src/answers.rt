@@ -2,16 +2,20 @@
 ghost use mathlib.Core.Path.{_≡_};
 ghost use Prim.Native.Nat.{_<_};
 ghost use lib.Dec.{ltb};
+ghost use lib.ListN.{length};
+ghost use Rattle.std.specs.Options.{mapped};
 ghost use Rattle.std.specs.Results.{Cases};
 ghost use Rattle.std.specs.declared.option.Option.the-variants.{Some};
 ghost use Rattle.bookings.specs.Books.{bookOf};
 ghost use Rattle.bookings.specs.Outcomes.{plainOutcome};
+ghost use Rattle.bookings.specs.Plain.{plainMark};
 ghost use Rattle.bookings.specs.Refusals.{numberOf};
 ghost use Rattle.console.specs.Answers.{kindNameOf};
 ghost use Rattle.console.specs.Requests.{markOf};
 ghost use Rattle.log.specs.Logs.{allOf};
+ghost use Rattle.log.specs.Vectors.{vectorOf};
 ghost use Rattle.replica.specs.Views.{stateOf};
-ghost use Rattle.rehearsal.specs.Told.{AskedOk, GotRefused, standingOf, gotOf, gotIn, nightTold, notedOn};
+ghost use Rattle.rehearsal.specs.Told.{AskedOk, GotRefused, standingOf, gotOf, gotIn, nightTold, notedOn, inkedAt, ServedBy, ServeRefused};
 use bookings::entry::Entry;
 use bookings::entry::Mark;
 use bookings::outcome::Outcome;
@@ -20,6 +24,8 @@ use console::answer::Answer;
 use console::answer::Got;
 use console::answer::KindName;
 use console::answer::Standing;
+use console::vector::RawVector;
+use log::vector::Vector;
 use replica::replica::Replica;
 
 // A hut's beds on a night.
@@ -83,6 +89,43 @@ pub fn got(replica: &Replica, stamp: u64, hut: u64) -> Result<Answer, Refusal>
         standing: standing_of(told.committed),
         got: got_of(&told.outcome),
     })
+}
+
+// What was committed, at which place, if there was something tentative.
+pub fn inked(first: Option<Mark>, place: usize) -> Answer
+    ensures { λ r. ⌜ r ≡ inkedAt place (mapped plainMark first) ⌝ }
+{
+    match first {
+        Some(mark) => Answer::Inked {
+            stamp: mark.stamp,
+            hut: mark.hut,
+            place,
+        },
+        None => Answer::NothingTentative,
+    }
+}
+
+// What a replica has.
+pub fn have(replica: &Replica) -> Answer
+    ensures { λ r. ⌜ ((v : Vector) × (r ≡ Answer.Have (length (stateOf (now (replica .entry)) .log .committed)) v)
+        × (v .stamps ≡ vectorOf (allOf (stateOf (now (replica .entry)) .log)))) ⌝ }
+{
+    let summary = replica.summary();
+    Answer::Have {
+        committed: summary.committed,
+        vector: summary.vector,
+    }
+}
+
+// A guest with a slip is served; refused where the slip is out of range (2), or knows more than the replica (7).
+pub fn served(replica: &Replica, slip: &RawVector) -> Result<Answer, Refusal>
+    ensures { λ r. ⌜ Cases r
+        (λ a. ServedBy (stateOf (now (replica .entry))) (now (slip .entry) .all) a)
+        (λ e. ServeRefused (stateOf (now (replica .entry))) (now (slip .entry) .all) (numberOf e)) ⌝ }
+{
+    let slip = slip.vector()?;
+    let after = replica.serve(slip)?;
+    Ok(Answer::Served { slip: after })
 }
 
 fn standing_of(committed: bool) -> Standing

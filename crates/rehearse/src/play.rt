@@ -75,10 +75,9 @@ fn answer(out: &mut impl Write, cast: &mut Cast, command: &Command) -> io::Resul
             say_or_refuse(out, answers::got(cast.meant(), *stamp, *hut))
         }
         Command::Line => say_log(out, cast.meant()),
-        // Not played yet.
-        Command::Ink | Command::Have | Command::Serve { .. } => {
-            say_error(out, Expected::Command)
-        }
+        Command::Ink => ink(out, cast),
+        Command::Have => say(out, answers::have(cast.meant())),
+        Command::Serve { slip } => say_or_refuse(out, answers::served(cast.meant(), slip)),
     }
 }
 
@@ -91,6 +90,14 @@ fn enter(out: &mut impl Write, cast: &mut Cast, request: &Request) -> io::Result
                 hut: mark.hut,
             },
         ),
+        Err(why) => say(out, Answer::Refused { why }),
+    }
+}
+
+fn ink(out: &mut impl Write, cast: &mut Cast) -> io::Result<()> {
+    let place = cast.meant().committed();
+    match cast.commit() {
+        Ok(first) => say(out, answers::inked(first, place)),
         Err(why) => say(out, Answer::Refused { why }),
     }
 }

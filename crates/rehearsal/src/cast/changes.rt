@@ -1,14 +1,17 @@
 // The replica that is meant: which it is, and what it enters.
+ghost use mathlib.Core.Bool.{true, false};
 ghost use mathlib.Core.Path.{_≡_};
+ghost use Rattle.std.specs.Options.{mapped};
 ghost use Rattle.std.specs.Results.{Cases};
 ghost use Rattle.std.specs.declared.option.Option.the-variants.{None, Some};
 ghost use Rattle.bookings.specs.Plain.{plainMark, plainKind};
 ghost use Rattle.bookings.specs.Refusals.{numberOf};
 ghost use Rattle.console.specs.Checks.{RequestOk};
 ghost use Rattle.console.specs.Requests.{asked};
-ghost use Rattle.replica.specs.Model.{nextMark, makeRefusal};
+ghost use Rattle.log.specs.Logs.{firstMark};
+ghost use Rattle.replica.specs.Model.{nextMark, makeRefusal, isPrimary};
 ghost use Rattle.replica.specs.Views.{stateOf};
-ghost use Rattle.rehearsal.specs.Scenes.{Absent, EnterRefused, meant, entered};
+ghost use Rattle.rehearsal.specs.Scenes.{Absent, EnterRefused, meant, entered, committed};
 ghost use Rattle.rehearsal.specs.Views.{sceneOf};
 use super::Cast;
 use super::makes::place_of;
@@ -66,5 +69,17 @@ impl Cast {
             × (sceneOf (now (self .exit)) ≡ sceneOf (now (self .entry)))) ⌝ }
     {
         self.replicas[self.current].make(kind)
+    }
+
+    // The replica that is meant commits its first tentative entry, if there is one, and gives its mark; the others stay as they are.
+    pub fn commit(&mut self) -> Result<Option<Mark>, Refusal>
+        ensures { λ r. ⌜ Cases r
+            (λ m. (isPrimary (meant (sceneOf (now (self .entry)))) ≡ true)
+            × (mapped plainMark m ≡ firstMark (meant (sceneOf (now (self .entry))) .log .tentative))
+            × (sceneOf (now (self .exit)) ≡ committed (sceneOf (now (self .entry)))))
+            (λ e. (isPrimary (meant (sceneOf (now (self .entry)))) ≡ false) × (numberOf e ≡ 6)
+            × (sceneOf (now (self .exit)) ≡ sceneOf (now (self .entry)))) ⌝ }
+    {
+        self.replicas[self.current].commit()
     }
 }
