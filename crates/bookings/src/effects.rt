@@ -90,7 +90,7 @@ fn change(
 }
 
 // Does an entry, behind those with the marks and outcomes that are lent, and hands back what came of it.
-pub fn carry_out(
+pub(crate) fn carry_out(
     beds: &mut [u32],
     booked: &mut [u32],
     marks: &[Mark],

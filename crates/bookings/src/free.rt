@@ -11,7 +11,7 @@ use crate::nights::first_night;
 use crate::outcome::Grant;
 
 // The first choice that has its beds free on each of its nights, for a booking or for a change of the one at `replaces`.
-pub fn first_free(
+pub(crate) fn first_free(
     beds: &[u32],
     booked: &[u32],
     choices: &Choices,

@@ -13,14 +13,14 @@ pub const NIGHTS: usize = 366;
 pub const PLACES: usize = 5856;
 
 // The place of a stay's first night.
-pub fn first_night(stay: &Stay) -> usize
+pub(crate) fn first_night(stay: &Stay) -> usize
     ensures { λ r. ⌜ r ≡ first (plainStay (now (stay .entry))) ⌝ ∗ ⌜ r + now (stay .entry) .nights ≤ 5856 ⌝ }
 {
     stay.hut as usize * NIGHTS + stay.night as usize
 }
 
 // Books the beds of a choice.
-pub fn claim_beds(booked: &mut [u32], choice: &Choice)
+pub(crate) fn claim_beds(booked: &mut [u32], choice: &Choice)
     requires { ⌜ length (now booked) ≡ 5856 ⌝ }
     requires { ⌜ ((k : ℕ) → k < now choice .stay .nights → getD (now booked) (first (plainStay (now choice .stay)) + k) 0 + now choice .beds < 2 ^ 32) ⌝ }
     ensures { λ _. ⌜ now (booked .exit) ≡ claim (now (booked .entry)) (plainChoice (now (choice .entry))) ⌝ }
@@ -33,7 +33,7 @@ pub fn claim_beds(booked: &mut [u32], choice: &Choice)
 }
 
 // Gives the beds of a choice back.
-pub fn release_beds(booked: &mut [u32], choice: &Choice)
+pub(crate) fn release_beds(booked: &mut [u32], choice: &Choice)
     requires { ⌜ length (now booked) ≡ 5856 ⌝ }
     requires { ⌜ ((k : ℕ) → k < now choice .stay .nights → now choice .beds ≤ getD (now booked) (first (plainStay (now choice .stay)) + k) 0) ⌝ }
     ensures { λ _. ⌜ now (booked .exit) ≡ release (now (booked .entry)) (plainChoice (now (choice .entry))) ⌝ }
@@ -46,7 +46,7 @@ pub fn release_beds(booked: &mut [u32], choice: &Choice)
 }
 
 // Sets the beds of some nights, on each to no fewer than are booked, and hands back how many there were.
-pub fn resize_beds(beds: &mut [u32], booked: &[u32], supply: &Supply) -> [u32; 14]
+pub(crate) fn resize_beds(beds: &mut [u32], booked: &[u32], supply: &Supply) -> [u32; 14]
     requires { ⌜ length (now beds) ≡ 5856 ⌝ ∗ ⌜ length (now booked) ≡ 5856 ⌝ }
     ensures after { λ _. ⌜ now (beds .exit) ≡ resize (now (beds .entry)) (now (booked .entry)) (plainSupply (now (supply .entry))) ⌝ }
     ensures were { λ r. ⌜ take (now (supply .entry) .stay .nights) r ≡ numbersOn (now (beds .entry)) (plainStay (now (supply .entry) .stay)) ⌝ }
@@ -62,7 +62,7 @@ pub fn resize_beds(beds: &mut [u32], booked: &[u32], supply: &Supply) -> [u32; 1
 }
 
 // Puts the beds of some nights back to what they were.
-pub fn restore_beds(beds: &mut [u32], stay: &Stay, were: &[u32; 14])
+pub(crate) fn restore_beds(beds: &mut [u32], stay: &Stay, were: &[u32; 14])
     requires { ⌜ length (now beds) ≡ 5856 ⌝ }
     ensures { λ _. ⌜ now (beds .exit) ≡ restore (now (beds .entry)) (plainStay (now (stay .entry))) (take (now (stay .entry) .nights) (now (were .entry))) ⌝ }
 {

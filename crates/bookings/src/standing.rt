@@ -13,7 +13,7 @@ use crate::outcome::Outcome;
 use crate::outcome::Standing;
 
 // The place of the first entry that has a mark.
-pub fn place_of(marks: &[Mark], mark: &Mark) -> Option<usize>
+pub(crate) fn place_of(marks: &[Mark], mark: &Mark) -> Option<usize>
     ensures value { λ r. ⌜ r ≡ placeFrom 0 (plainMark (now (mark .entry))) (map plainMark (now (marks .entry))) ⌝ }
     ensures within { λ r. ⌜ BySome r (Unit {0}) (λ p. p < length (now (marks .entry))) ⌝ }
 {
@@ -26,7 +26,7 @@ pub fn place_of(marks: &[Mark], mark: &Mark) -> Option<usize>
 }
 
 // The booking with a mark, if it holds a choice.
-pub fn find_standing(marks: &[Mark], outcomes: &[Outcome], mark: &Mark) -> Option<Standing>
+pub(crate) fn find_standing(marks: &[Mark], outcomes: &[Outcome], mark: &Mark) -> Option<Standing>
     requires { ⌜ length (now marks) ≡ length (now outcomes) ⌝ }
     ensures value { λ r. ⌜ mapped plainStanding r ≡ standing (map plainMark (now (marks .entry))) (map plainOutcome (now (outcomes .entry))) (plainMark (now (mark .entry))) ⌝ }
     ensures there { λ r. ⌜ BySome r (Unit {0}) (λ s. (s .place < length (now (outcomes .entry))) × (getD (map plainOutcome (now (outcomes .entry))) (s .place) nothing ≡ holds (plainGrant (s .grant)))) ⌝ }

@@ -42,7 +42,12 @@ fn reinstate(booked: &mut [u32], outcomes: &mut [Outcome], place: usize)
 }
 
 // Undoes the entry that was done last; `outcomes` are those of the entries before it.
-pub fn take_back(beds: &mut [u32], booked: &mut [u32], outcomes: &mut [Outcome], last: &Outcome)
+pub(crate) fn take_back(
+    beds: &mut [u32],
+    booked: &mut [u32],
+    outcomes: &mut [Outcome],
+    last: &Outcome,
+)
     requires long_beds { ⌜ length (now beds) ≡ 5856 ⌝ }
     requires long { ⌜ length (now booked) ≡ 5856 ⌝ }
     requires covered { ⌜ Covered (now booked) (plainOutcome (now last) ∷ []) ⌝ }

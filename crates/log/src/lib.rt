@@ -1,5 +1,5 @@
 // The log of a replica: the order of marks, version vectors, and where an entry goes.
 pub mod log;
-pub mod order;
+mod order;
 mod room;
 pub mod vector;

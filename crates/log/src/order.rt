@@ -13,14 +13,14 @@ use bookings::entry::Entry;
 use bookings::entry::Mark;
 
 // Whether a mark comes before another: by its stamp, and at one stamp by its hut.
-pub fn is_before(a: &Mark, b: &Mark) -> bool
+pub(crate) fn is_before(a: &Mark, b: &Mark) -> bool
     ensures { λ r. ⌜ r ≡ before (plainMark (now (a .entry))) (plainMark (now (b .entry))) ⌝ }
 {
     a.stamp < b.stamp || (a.stamp == b.stamp && a.hut < b.hut)
 }
 
 // The place of a mark among entries that are sorted: behind the last that it does not come before.
-pub fn spot_of(part: &[Entry], mark: &Mark) -> usize
+pub(crate) fn spot_of(part: &[Entry], mark: &Mark) -> usize
     requires { ⌜ ascends (map plain (now part)) ≡ true ⌝ }
     ensures { λ r. ⌜ r ≡ spot (plainMark (now (mark .entry))) (map plain (now (part .entry))) ⌝ }
 {
@@ -34,7 +34,7 @@ pub fn spot_of(part: &[Entry], mark: &Mark) -> usize
 }
 
 // The place of the entry with a mark.
-pub fn position_of(part: &[Entry], mark: &Mark) -> Option<usize>
+pub(crate) fn position_of(part: &[Entry], mark: &Mark) -> Option<usize>
     ensures { λ r. ⌜ BySome r (has (plainMark (now (mark .entry))) (map plain (now (part .entry))) ≡ false)
         (λ p. (p < length (now (part .entry))) × ((d : PlainEntry) → sameMark (plainMark (now (mark .entry))) (getD (map plain (now (part .entry))) p d .mark) ≡ true)) ⌝ }
 {

@@ -20,7 +20,7 @@ fn put_first(part: &mut [Entry], entry: Entry)
 }
 
 // Puts an entry at a place, over the one at `last`, and moves those from the place on to there up by one.
-pub fn move_to(entries: &mut [Entry], place: usize, last: usize, entry: Entry)
+pub(crate) fn move_to(entries: &mut [Entry], place: usize, last: usize, entry: Entry)
     requires order { ⌜ place ≤ last ⌝ }
     requires within { ⌜ last < length (now entries) ⌝ }
     ensures { λ _. ⌜ now (entries .exit) ≡ movedTo (now (entries .entry)) place last «entry» ⌝ }
@@ -29,7 +29,7 @@ pub fn move_to(entries: &mut [Entry], place: usize, last: usize, entry: Entry)
 }
 
 // Puts an entry at a place, and moves what stood there and behind it up by one, into room that was reserved.
-pub fn insert_at(entries: &mut Vec<Entry>, place: usize, entry: Entry)
+pub(crate) fn insert_at(entries: &mut Vec<Entry>, place: usize, entry: Entry)
     requires within { ⌜ place ≤ vec-len (now entries) ⌝ }
     requires room { ⌜ vec-len (now entries) < vec-cap (now entries) ⌝ }
     ensures items { λ _. ⌜ vec-items (now (entries .exit)) ≡ inserted (vec-items (now (entries .entry))) place «entry» ⌝ }

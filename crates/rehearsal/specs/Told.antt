@@ -70,9 +70,9 @@ abbrev pub notedOn : PlainBook → ℕ → ℕ → Option Answer
 notedOn b hut night = cond (isPlain b hut night) None (Some (nightTold b hut night))
 
 -- what is said of a mark that was committed, and where there was none
-abbrev pub inkedAt : ℕ → Option PlainMark → Answer
-inkedAt place None = answers.NothingTentative
-inkedAt place (Some m) = answers.Inked (m .stamp) (m .hut) place
+abbrev pub committedAt : ℕ → Option PlainMark → Answer
+committedAt place None = answers.NothingTentative
+committedAt place (Some m) = answers.Inked (m .stamp) (m .hut) place
 
 -- a guest with a slip in range, which knows no more than the replica, has all that it knows noted on it
 abbrev pub ServedBy : State → List ℕ → Answer → Type 0

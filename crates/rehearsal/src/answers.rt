@@ -15,7 +15,7 @@ ghost use Rattle.console.specs.Requests.{markOf};
 ghost use Rattle.log.specs.Logs.{allOf};
 ghost use Rattle.log.specs.Vectors.{vectorOf};
 ghost use Rattle.replica.specs.Views.{stateOf};
-ghost use Rattle.rehearsal.specs.Told.{AskedOk, GotRefused, standingOf, gotOf, gotIn, nightTold, notedOn, inkedAt, ServedBy, ServeRefused};
+ghost use Rattle.rehearsal.specs.Told.{AskedOk, GotRefused, standingOf, gotOf, gotIn, nightTold, notedOn, committedAt, ServedBy, ServeRefused};
 use bookings::entry::Entry;
 use bookings::entry::Mark;
 use bookings::outcome::Outcome;
@@ -92,8 +92,8 @@ pub fn got(replica: &Replica, stamp: u64, hut: u64) -> Result<Answer, Refusal>
 }
 
 // What was committed, at which place, if there was something tentative.
-pub fn inked(first: Option<Mark>, place: usize) -> Answer
-    ensures { λ r. ⌜ r ≡ inkedAt place (mapped plainMark first) ⌝ }
+pub fn committed(first: Option<Mark>, place: usize) -> Answer
+    ensures { λ r. ⌜ r ≡ committedAt place (mapped plainMark first) ⌝ }
 {
     match first {
         Some(mark) => Answer::Inked {

@@ -75,7 +75,7 @@ fn answer(out: &mut impl Write, cast: &mut Cast, command: &Command) -> io::Resul
             say_or_refuse(out, answers::got(cast.meant(), *stamp, *hut))
         }
         Command::Line => say_log(out, cast.meant()),
-        Command::Ink => ink(out, cast),
+        Command::Ink => commit(out, cast),
         Command::Have => say(out, answers::have(cast.meant())),
         Command::Serve { slip } => say_or_refuse(out, answers::served(cast.meant(), slip)),
     }
@@ -94,10 +94,10 @@ fn enter(out: &mut impl Write, cast: &mut Cast, request: &Request) -> io::Result
     }
 }
 
-fn ink(out: &mut impl Write, cast: &mut Cast) -> io::Result<()> {
+fn commit(out: &mut impl Write, cast: &mut Cast) -> io::Result<()> {
     let place = cast.meant().committed();
     match cast.commit() {
-        Ok(first) => say(out, answers::inked(first, place)),
+        Ok(first) => say(out, answers::committed(first, place)),
         Err(why) => say(out, Answer::Refused { why }),
     }
 }

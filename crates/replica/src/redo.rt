@@ -11,7 +11,7 @@ use bookings::book::Book;
 use bookings::entry::Entry;
 
 // Undoes the entries from a place on, the last first.
-pub fn undo_to(book: &mut Book, place: usize)
+pub(crate) fn undo_to(book: &mut Book, place: usize)
     ensures { λ _. ⌜ ((es : List PlainEntry) → Each InRange es → bookIn (now (book .entry)) ≡ bookOf es → bookIn (now (book .exit)) ≡ bookOf (take place es)) ⌝ }
 {
     for _n in (place..book.len()).rev() {
@@ -20,7 +20,7 @@ pub fn undo_to(book: &mut Book, place: usize)
 }
 
 // Does the entries of a log from a place on, up to which the book has them done.
-pub fn redo_from(book: &mut Book, log: &[Entry], place: usize)
+pub(crate) fn redo_from(book: &mut Book, log: &[Entry], place: usize)
     requires within { ⌜ place ≤ length (now log) ⌝ }
     requires room { ⌜ length (now log) ≤ 65536 ⌝ }
     requires done { ⌜ bookIn (now book) ≡ bookOf (take place (map plain (now log))) ⌝ }
