@@ -1,4 +1,6 @@
 // A book of beds that entries change: what an entry does to it, and how that is undone.
+#![tactic(auto)]
+
 pub mod book;
 mod effects;
 pub mod entry;

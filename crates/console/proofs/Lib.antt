@@ -1,15 +1,11 @@
 pub mod DecimalWords
 pub mod Digits
 pub mod FoursOn
-pub mod HexBack
-pub mod HexOn
-pub mod HexText
 pub mod InRange
 pub mod NumbersOn
 pub mod Pieces
 pub mod ReadBack
 pub mod SaidBy
-pub mod SlipBack
 pub mod SpacesMore
 pub mod StampsOn
 pub mod WordBounds

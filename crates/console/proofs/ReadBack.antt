@@ -1,25 +1,22 @@
 -- A command that is written down is read back as that command.
-use Rattle.std.proofs.Common.{◌≡◌, ℕ, zero, suc, ◌+◌, ◌*◌, ◌<◌, ◌≤◌, cond, List, [], ◌∷◌, ◌++◌, map, length, Some, Ok, Err, decimal, sym, refl, ap, ◌∙◌, append_assoc, arith, le-ltb, eq-eqb, ne_eqb}
+use Rattle.std.proofs.Common.{◌≡◌, ℕ, zero, suc, ◌+◌, ◌*◌, ◌≤◌, List, [], ◌∷◌, ◌++◌, map, length, Some, Ok, decimal, sym, refl, ap, ◌∙◌, append_assoc, arith, le-ltb, eq-eqb, ne_eqb}
 use Rattle.std.proofs.lemmas.List.{append-nil}
 use Rattle.bookings.specs.Plain.{PlainChoice, PlainKind, book, cancel, change, supply}
 use Rattle.bookings.specs.Ranges.{Each}
-use Rattle.console.specs.declared.command.Expected.TheVariants.{Take}
 use Rattle.console.specs.declared.verb.Verb.{Verb}
-use Rattle.console.specs.declared.verb.Verb.TheVariants.{Huts, At, Book, Cancel, Change, Beds, Ink, Have, Show, Line, Got, Serve, Letter, Walk, Lose, Again, Cut, Stop, Help}
-use Rattle.console.specs.Commands.{Said, pass, huts, at, make, ink, have, show_night, show, log, got, serve, letter, taken, walk, lose, again, cut, stop, help, take_name, taken_by, said_by, in_form, with_numbers, by_words, parsed}
-use Rattle.console.specs.Lines.{spaced, written, choice_numbers, request_line, line_of, TenDigits, IsByte, RequestSayable, Sayable}
-use Rattle.console.specs.Hexes.{bytes_of, hex_text}
+use Rattle.console.specs.declared.verb.Verb.TheVariants.{Huts, At, Book, Cancel, Change, Beds, Ink, Have, Show, Line, Got, Serve}
+use Rattle.console.specs.Commands.{Said, pass, huts, at, make, ink, have, show_night, show, log, got, serve, said_by, in_form, with_numbers, by_words, parsed}
+use Rattle.console.specs.Lines.{spaced, written, choice_numbers, request_line, line_of, TenDigits, RequestSayable, Sayable}
 use Rattle.console.specs.Numbers.{numbers_of}
 use Rattle.console.specs.Requests.{fours, choices_of}
 use Rattle.console.specs.Verbs.{name_of}
 use Rattle.console.specs.Words.{space, words_after, words}
 use Rattle.console.proofs.DecimalWords.{Word, decimal_word, decimal-number}
 use Rattle.console.proofs.FoursOn.{choices_read}
-use Rattle.console.proofs.HexBack.{hex_word, hex_text-is_hex, bytes_of-hex_text}
 use Rattle.console.proofs.SaidBy.{book_says, change_says}
 
 -- a word, once it is begun, ends where the next begins
-pub word_then :
+word_then :
     (c : ℕ) (v w : List ℕ) (ws : List (List ℕ)) → Each (λ b. b ≡ space → ⊥) w → words (spaced ws) ≡ ws
     → words_after (c ∷ v) (w ++ spaced ws) ≡ (c ∷ (v ++ w)) ∷ ws
 word_then c v [] [] plain further = rw (append-nil v) refl
@@ -31,15 +28,15 @@ first_then : (w : List ℕ) (ws : List (List ℕ)) → Word w → words (spaced 
 first_then [] ws word further = absurd (omega arith)
 first_then (b ∷ w) ws word further = rw (ne_eqb b space word.1.0) (word_then b [] w ws word.1.1 further)
 
-pub words_of_spaced : (ws : List (List ℕ)) → Each Word ws → words (spaced ws) ≡ ws
+words_of_spaced : (ws : List (List ℕ)) → Each Word ws → words (spaced ws) ≡ ws
 words_of_spaced [] all = refl
 words_of_spaced (w ∷ ws) all = first_then w ws all.0 (words_of_spaced ws all.1)
 
-pub decimals_are_words : (ns : List ℕ) → Each TenDigits ns → Each Word (map decimal ns)
+decimals_are_words : (ns : List ℕ) → Each TenDigits ns → Each Word (map decimal ns)
 decimals_are_words [] all = tt
 decimals_are_words (n ∷ ns) all = (decimal_word n all.0, decimals_are_words ns all.1)
 
-pub numbers_of_decimals : (k : ℕ) (ns : List ℕ) → length ns ≤ k → Each TenDigits ns → numbers_of k (map decimal ns) ≡ Some ns
+numbers_of_decimals : (k : ℕ) (ns : List ℕ) → length ns ≤ k → Each TenDigits ns → numbers_of k (map decimal ns) ≡ Some ns
 unfolding numbers_of
 numbers_of_decimals zero [] few all = refl
 numbers_of_decimals (suc k) [] few all = refl
@@ -60,13 +57,6 @@ name_then Show ws further = word_then _ _ [] ws tt further
 name_then Line ws further = word_then _ _ [] ws tt further
 name_then Got ws further = word_then _ _ [] ws tt further
 name_then Serve ws further = word_then _ _ [] ws tt further
-name_then Letter ws further = word_then _ _ [] ws tt further
-name_then Walk ws further = word_then _ _ [] ws tt further
-name_then Lose ws further = word_then _ _ [] ws tt further
-name_then Again ws further = word_then _ _ [] ws tt further
-name_then Cut ws further = word_then _ _ [] ws tt further
-name_then Stop ws further = word_then _ _ [] ws tt further
-name_then Help ws further = word_then _ _ [] ws tt further
 
 name_says : (v : Verb) (ws : List (List ℕ)) → by_words (name_of v ∷ ws) ≡ in_form v (with_numbers v (numbers_of 18 ws))
 name_says Huts ws = refl
@@ -81,13 +71,6 @@ name_says Show ws = refl
 name_says Line ws = refl
 name_says Got ws = refl
 name_says Serve ws = refl
-name_says Letter ws = refl
-name_says Walk ws = refl
-name_says Lose ws = refl
-name_says Again ws = refl
-name_says Cut ws = refl
-name_says Stop ws = refl
-name_says Help ws = refl
 
 -- a verb and numbers say what they say in that form
 written_says : (v : Verb) (ns : List ℕ) → length ns ≤ 18 → Each TenDigits ns → parsed (written v ns) ≡ in_form v (said_by v ns)
@@ -120,16 +103,6 @@ request_reads_back (change m cs) h =
     (sym (change_says (m.stamp ∷ m.hut ∷ choice_numbers cs) (choice_numbers cs) (Some cs) (omega arith) refl (sym (choices_of_numbers cs h.1))))
 request_reads_back (supply c) h = written_says Beds (choice_numbers (c ∷ [])) (omega arith) h
 
-take_then : (ws : List (List ℕ)) → words (spaced ws) ≡ ws → words (take_name ++ spaced ws) ≡ take_name ∷ ws
-take_then ws further = word_then _ _ [] ws tt further
-
-letter-reads_back : (bytes : List ℕ) → Each IsByte bytes → 0 < length bytes → parsed (take_name ++ spaced (hex_text bytes ∷ [])) ≡ Ok (taken bytes)
-letter-reads_back bytes all some =
-    let further = words_of_spaced (hex_text bytes ∷ []) (hex_word bytes all some, tt) in
-    ap by_words (take_then (hex_text bytes ∷ []) further)
-    ∙ ap (λ t. cond t (Ok (taken (bytes_of (hex_text bytes)))) (Err Take)) (hex_text-is_hex bytes all)
-    ∙ ap (λ t. Ok (taken t)) (bytes_of-hex_text bytes all)
-
 pub lines_read_back : (s : Said) → Sayable s → parsed (line_of s) ≡ Ok s
 lines_read_back pass h = refl
 lines_read_back (huts hs) h =
@@ -143,12 +116,3 @@ lines_read_back show h = written_says Show [] (omega arith) tt
 lines_read_back log h = written_says Line [] (omega arith) tt
 lines_read_back (got m) h = written_says Got (m.stamp ∷ m.hut ∷ []) (omega arith) (h.0, (h.1, tt))
 lines_read_back (serve ns) h = written_says Serve ns (omega arith) h.0 ∙ rw (eq-eqb (length ns) 16 h.1) refl
-lines_read_back (letter n ns) h =
-    written_says Letter (n ∷ ns) (omega arith) h.0 ∙ rw (eq-eqb (length (n ∷ ns)) 17 (omega arith)) refl
-lines_read_back (taken bytes) h = letter-reads_back bytes h.0 h.1
-lines_read_back (walk n m) h = written_says Walk (n ∷ m ∷ []) (omega arith) (h.0, (h.1, tt))
-lines_read_back (lose n m) h = written_says Lose (n ∷ m ∷ []) (omega arith) (h.0, (h.1, tt))
-lines_read_back (again n m) h = written_says Again (n ∷ m ∷ []) (omega arith) (h.0, (h.1, tt))
-lines_read_back (cut n m k) h = written_says Cut (n ∷ m ∷ k ∷ []) (omega arith) (h.0, (h.1, (h.2, tt)))
-lines_read_back (stop n m) h = written_says Stop (n ∷ m ∷ []) (omega arith) (h.0, (h.1, tt))
-lines_read_back help h = written_says Help [] (omega arith) tt

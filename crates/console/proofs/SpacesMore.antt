@@ -2,7 +2,6 @@
 use Rattle.std.proofs.Common.{◌≡◌, ℕ, Bool, true, false, eqb, List, [], ◌∷◌, ◌++◌, refl, ap}
 use Rattle.console.specs.Commands.{by_words}
 use Rattle.console.specs.Lines.{SpacesDoNotMatter}
-use Rattle.console.specs.Slips.{slip_by_words, SlipSpacesDoNotMatter}
 use Rattle.console.specs.Words.{space, ended, words_after}
 
 -- two texts have the same words behind the same byte, if they do behind every beginning
@@ -20,9 +19,6 @@ double_space (c ∷ a) b w =
 last_space : (a w : List ℕ) → words_after w (a ++ space ∷ []) ≡ words_after w a
 last_space [] w = refl
 last_space (c ∷ a) w = same_behind c (a ++ space ∷ []) a w (eqb c space) refl (λ v. last_space a v)
-
-pub slip-spaces_do_not_matter : SlipSpacesDoNotMatter
-slip-spaces_do_not_matter = (λ a b. ap slip_by_words (double_space a b []), λ a. refl, λ a. ap slip_by_words (last_space a []))
 
 pub spaces_do_not_matter_lem : SpacesDoNotMatter
 spaces_do_not_matter_lem = (λ a b. ap by_words (double_space a b []), λ a. refl, λ a. ap by_words (last_space a []))

@@ -1,5 +1,5 @@
 -- The text of an answer.
-use Rattle.std.specs.Prelude.{ℕ, cond, List, [], ◌++◌, map, codes, decimal, ◌==◌}
+use Rattle.std.specs.Prelude.{ℕ, List, ◌++◌, map, codes, decimal}
 use Rattle.bookings.specs.declared.entry.Kind.{Kind}
 use Rattle.bookings.specs.declared.entry.Kind.TheVariants as entries
 use Rattle.bookings.specs.declared.refusal.Refusal.{Refusal}
@@ -13,16 +13,8 @@ use Rattle.console.specs.declared.answer.KindName.{KindName}
 use Rattle.console.specs.declared.answer.KindName.TheVariants as kinds
 use Rattle.console.specs.declared.answer.Standing.{Standing}
 use Rattle.console.specs.declared.answer.Standing.TheVariants as standings
-use Rattle.console.specs.declared.answer.letters.Carried.{Carried}
-use Rattle.console.specs.declared.answer.letters.Carried.TheVariants as carries
-use Rattle.console.specs.declared.answer.letters.Taking.{Taking}
-use Rattle.console.specs.declared.answer.letters.Taking.TheVariants as takings
-use Rattle.console.specs.declared.answer.starts.Opened.{Opened}
-use Rattle.console.specs.declared.answer.starts.Usage.{Usage}
-use Rattle.console.specs.declared.answer.starts.Usage.TheVariants as usages
 use Rattle.console.specs.declared.command.Expected.{Expected}
 use Rattle.console.specs.declared.command.Expected.TheVariants as expected
-use Rattle.console.specs.Hexes.{hex_text}
 use Rattle.console.specs.Lines.{spaced}
 use Rattle.console.specs.declared.verb.Verb.{Verb}
 use Rattle.console.specs.declared.verb.Verb.TheVariants as verbs
@@ -68,19 +60,10 @@ form_text verbs.Show = codes "show, or show H N"
 form_text verbs.Line = codes "line"
 form_text verbs.Got = codes "got S H"
 form_text verbs.Serve = codes "serve S0 .. S15"
-form_text verbs.Letter = codes "letter C S0 .. S15"
-form_text verbs.Walk = codes "walk I J"
-form_text verbs.Lose = codes "lose I J"
-form_text verbs.Again = codes "again K J"
-form_text verbs.Cut = codes "cut K J N"
-form_text verbs.Stop = codes "stop I N"
-form_text verbs.Help = codes "help"
 
 abbrev pub expected_text : Expected → List ℕ
-expected_text expected.Command = codes "expected a command: huts, at, book, cancel, change, beds, ink, have, letter, take, show, line, got, serve, walk, lose, again, cut, stop or help"
-expected_text expected.HutCommand = codes "expected a command: book, cancel, change, beds, ink, have, letter, take, show, line, got, serve or help"
+expected_text expected.Command = codes "expected a command: huts, at, book, cancel, change, beds, ink, have, show, line, got or serve"
 expected_text (expected.Form v) = codes "expected: " ++ form_text v
-expected_text expected.Take = codes "expected: take HEX"
 expected_text expected.HutsFirst = codes "expected huts first"
 expected_text expected.HutsOnce = codes "expected huts only once"
 
@@ -95,40 +78,6 @@ got_text gots.Nothing = codes "nothing"
 got_text gots.Cancelled = codes "cancelled"
 got_text (gots.ChangedBy s h) = codes "changed by " ++ (decimal s ++ (codes " " ++ decimal h))
 got_text gots.NotABooking = codes "not a booking"
-
--- what befalls letter k
-abbrev pub carried_text : Carried → List ℕ
-carried_text (carries.Walked k i j) = codes "letter " ++ (decimal k ++ (codes " from " ++ (decimal i ++ (codes " to " ++ decimal j))))
-carried_text (carries.Lost k i j) =
-    codes "letter " ++ (decimal k ++ (codes " from " ++ (decimal i ++ (codes " to " ++ (decimal j ++ codes " lost")))))
-carried_text (carries.Again k j) = codes "letter " ++ (decimal k ++ (codes " again to " ++ decimal j))
-carried_text (carries.Cut k n j) = codes "letter " ++ (decimal k ++ (codes " cut to " ++ (decimal n ++ (codes " to " ++ decimal j))))
-
-abbrev pub taking_text : Taking → List ℕ
-taking_text (takings.Committed s h p) = codes "taken in ink " ++ (decimal s ++ (codes " " ++ (decimal h ++ (codes " at " ++ decimal p))))
-taking_text (takings.Tentative s h) = codes "taken in pencil " ++ (decimal s ++ (codes " " ++ decimal h))
-taking_text (takings.Skipped why s h) =
-    codes "passed over " ++ (decimal (number_of why) ++ (codes ": " ++ (decimal s ++ (codes " " ++ decimal h))))
-taking_text (takings.Rejected why) = codes "kept out " ++ (decimal (number_of why) ++ (codes ": " ++ reason_text why))
-taking_text (takings.Counts a b c) =
-    codes "taken " ++ (decimal a ++ (codes ", passed over " ++ (decimal b ++ (codes ", kept out " ++ decimal c))))
-
--- nothing, where nothing was cut off
-abbrev pub cut_text : ℕ → List ℕ
-cut_text n = cond (n == 0) [] (codes ", " ++ (decimal n ++ codes " bytes cut off"))
-
--- the line that brings a letter
-abbrev pub letter_text : List ℕ → List ℕ
-letter_text bytes = codes "letter " ++ hex_text bytes
-
-abbrev pub opened_text : Opened → List ℕ
-opened_text o =
-    codes "hut " ++ (decimal o.hut ++ (codes ": " ++ (decimal o.committed ++ (codes " in ink, " ++ (decimal o.tentative ++ (codes " in pencil" ++ cut_text o.cut))))))
-
--- a line for each command
-abbrev pub usage_text : Usage → List ℕ
-usage_text usages.Hut = codes "book G, then up to four choices H N K B\ncancel S H\nchange S H, then up to four choices H N K B\nbeds H N K B\nink\nhave\nletter C S0 .. S15\ntake HEX\nshow, or show H N\nline\ngot S H\nserve S0 .. S15\nhelp"
-usage_text usages.Rehearsal = codes "huts, then one to four huts\nat I\nwalk I J\nlose I J\nagain K J\ncut K J N\nstop I N"
 
 abbrev pub answer_text : Answer → List ℕ
 answer_text (answers.Made s h) = codes "made " ++ (decimal s ++ (codes " " ++ decimal h))
@@ -145,8 +94,4 @@ answer_text answers.EndOfLog = codes "end of line"
 answer_text (answers.Got s h t g) =
     decimal s ++ (codes " " ++ (decimal h ++ (codes " " ++ (standing_text t ++ (codes ": " ++ got_text g)))))
 answer_text (answers.Served v) = codes "served" ++ stamps_text v.stamps
-answer_text (answers.Letter c) = carried_text c
-answer_text (answers.Take t) = taking_text t
-answer_text (answers.Opened o) = opened_text o
-answer_text (answers.Usage u) = usage_text u
 answer_text (answers.Error e) = codes "error: " ++ expected_text e

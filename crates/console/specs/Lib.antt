@@ -2,12 +2,8 @@ pub mod Answers
 pub mod Checks
 pub mod Commands
 pub mod Digits
-pub mod Hexes
-pub mod HutLines
 pub mod Lines
 pub mod Numbers
 pub mod Requests
-pub mod SlipAnswers
-pub mod Slips
 pub mod Verbs
 pub mod Words

@@ -1,18 +1,10 @@
 // What a program answers: one line each.
-use self::letters::{Carried, Taking};
-use self::starts::{Opened, Usage};
 use crate::command::Expected;
 use bookings::refusal::Refusal;
 use entry_log::vector::Vector;
 
-mod expects;
 mod kinds;
-pub mod letter;
-pub mod letters;
-mod reasons;
 mod shows;
-pub(crate) mod stamps;
-pub mod starts;
 
 #[derive(Clone, Copy)]
 pub enum Answer {
@@ -63,22 +55,6 @@ pub enum Answer {
     // A guest was served, who has that slip now.
     Served {
         slip: Vector,
-    },
-    // A letter was written, and came or was lost.
-    Letter {
-        carried: Carried,
-    },
-    // What comes of a letter that is taken, a line for each entry, and the counts.
-    Take {
-        taking: Taking,
-    },
-    // A replica was opened.
-    Opened {
-        opened: Opened,
-    },
-    // How lines are written.
-    Usage {
-        usage: Usage,
     },
     Error {
         expected: Expected,

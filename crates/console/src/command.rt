@@ -1,5 +1,4 @@
 // What a line asks for.
-use crate::hex::Hex;
 use crate::numbers::Numbers;
 use crate::request::Request;
 use crate::vector::RawVector;
@@ -28,38 +27,13 @@ pub enum Command {
     Got { stamp: u64, hut: u64 },
     // A guest, with that slip.
     Serve { slip: RawVector },
-    // A letter for a replica that has that many committed, and that vector.
-    Letter { committed: u64, vector: RawVector },
-    // A letter comes, as the digits of the line.
-    Take,
-    // A letter is carried, or lost on the way.
-    Walk { from: u64, to: u64 },
-    Lose { from: u64, to: u64 },
-    // A letter that was written comes once more, or late; or only its first bytes come.
-    Again { letter: u64, to: u64 },
-    Cut { letter: u64, to: u64, bytes: u64 },
-    // A crash: of what was not synced, so many bytes are kept.
-    Stop { hut: u64, bytes: u64 },
-    // How lines are written.
-    Help,
-}
-
-// What was read of a line: what it asks for, and the letter that it brings, which has no digits but for `take`.
-#[derive(Clone, Copy)]
-pub struct Asked<'a> {
-    pub command: Result<Command, Expected>,
-    pub letter: Hex<'a>,
 }
 
 // What a line should have been.
 #[derive(Clone, Copy)]
 pub enum Expected {
-    // Any command; any of a hut's.
     Command,
-    HutCommand,
     Form { verb: Verb },
-    // A letter in hexadecimal digits.
-    Take,
     // The huts of a rehearsal are named before all else, and not again.
     HutsFirst,
     HutsOnce,

@@ -1,14 +1,14 @@
 // The programs' text: lines that ask for something, and lines that answer.
+#![tactic(auto)]
+
 pub mod answer;
 pub mod command;
 mod forms;
-pub mod hex;
 pub mod laws;
 pub mod line;
 mod number;
 pub mod numbers;
 pub mod request;
-pub mod slip;
 pub mod vector;
 pub mod verb;
 mod words;

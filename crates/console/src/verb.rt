@@ -1,7 +1,7 @@
-// What a line's first word asks for, of those that have numbers behind them.
+// What a line's first word asks for.
 ghost use Rattle.std.specs.Prelude.{◌≡◌};
 ghost use Rattle.std.specs.Str.{bytes_eq};
-ghost use Rattle.console.specs.Verbs.{verb_of, other_verb_of, letter_verb_of};
+ghost use Rattle.console.specs.Verbs.{verb_of, other_verb_of};
 
 #[derive(Clone, Copy)]
 pub enum Verb {
@@ -17,13 +17,6 @@ pub enum Verb {
     Line,
     Got,
     Serve,
-    Letter,
-    Walk,
-    Lose,
-    Again,
-    Cut,
-    Stop,
-    Help,
 }
 
 // The verb that a word names.
@@ -72,37 +65,10 @@ fn read_other_verb(word: &[u8]) -> Option<Verb>
     if is(word, b"serve") {
         return Some(Verb::Serve);
     }
-    read_letter_verb(word)
-}
-
-fn read_letter_verb(word: &[u8]) -> Option<Verb>
-    ensures { result ≡ letter_verb_of word.now }
-{
-    if is(word, b"letter") {
-        return Some(Verb::Letter);
-    }
-    if is(word, b"walk") {
-        return Some(Verb::Walk);
-    }
-    if is(word, b"lose") {
-        return Some(Verb::Lose);
-    }
-    if is(word, b"again") {
-        return Some(Verb::Again);
-    }
-    if is(word, b"cut") {
-        return Some(Verb::Cut);
-    }
-    if is(word, b"stop") {
-        return Some(Verb::Stop);
-    }
-    if is(word, b"help") {
-        return Some(Verb::Help);
-    }
     None
 }
 
-pub(crate) fn is(word: &[u8], name: &[u8]) -> bool
+fn is(word: &[u8], name: &[u8]) -> bool
     ensures { result ≡ bytes_eq word.now name.now }
 {
     word == name

@@ -1,4 +1,6 @@
 // A table of crashes: each byte at which the journal of a script can break off, in memory and in a file, and what is opened then.
+#![tactic(auto)]
+
 mod crashes;
 mod cuts;
 mod script;

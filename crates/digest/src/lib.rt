@@ -1,4 +1,6 @@
 // SHA-256, of a message in one piece and of one that comes in parts.
+#![tactic(auto)]
+
 ghost use Rattle.std.specs.Prelude.{◌≡◌};
 ghost use Rattle.digest.specs.Sha256.{digest_of};
 

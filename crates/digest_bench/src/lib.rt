@@ -1,4 +1,6 @@
 // A digest for a caller in C or Rust, to be timed by bench/digest.
+#![tactic(auto)]
+
 ghost use Rattle.std.specs.Prelude.{◌≡◌, ◌≢◌, length};
 ghost use Rattle.digest.specs.Sha256.{digest_of};
 

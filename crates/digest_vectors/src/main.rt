@@ -1,5 +1,7 @@
 // Prints the length and the digest of published messages, and of lengths around each edge of the padding.
 // The file `stdout` beside src/ has the digests as another implementation gives them (bench/digest/expected).
+#![tactic(auto)]
+
 use digest::{Hasher, sha256};
 
 // One line: a length, and a digest in hex.

@@ -1,4 +1,6 @@
 // The journal of a replica: its records as bytes, in memory or in a file, and a replica over it.
+#![tactic(auto)]
+
 pub mod appender;
 pub mod disk;
 pub mod fault;

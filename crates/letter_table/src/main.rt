@@ -1,4 +1,6 @@
 // A table of letters: the examples of docs/RULES.md, one damaged letter for each reason, one entry out of range for each number, cuts, and full letters.
+#![tactic(auto)]
+
 mod forms;
 mod full;
 mod ranges;

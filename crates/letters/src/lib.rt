@@ -1,4 +1,6 @@
 // Entries and letters as bytes.
+#![tactic(auto)]
+
 pub mod laws;
 pub mod letter;
 pub mod reader;

@@ -1,4 +1,6 @@
 // Letters read and written for a caller in C or Rust, to be timed by bench/letters.
+#![tactic(auto)]
+
 use bookings::entry::Entry;
 use letters::letter::{Item, Letter};
 use letters::writer::{LETTER_ROOM, write_letter};

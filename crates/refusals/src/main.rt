@@ -1,4 +1,6 @@
 // A table with a row for each call of a replica and each number by which it refuses.
+#![tactic(auto)]
+
 use anyhow::anyhow;
 use bookings::entry::{Choices, Entry, Kind, Mark};
 use bookings::refusal::Refusal;

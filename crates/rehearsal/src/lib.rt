@@ -1,3 +1,5 @@
 // A rehearsal: some huts in memory, and what they answer.
+#![tactic(auto)]
+
 pub mod answers;
 pub mod cast;

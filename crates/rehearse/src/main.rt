@@ -1,4 +1,6 @@
 // Plays a script from standard input with some huts in memory, and answers each line.
+#![tactic(auto)]
+
 use play::play;
 use std::io::{BufRead, BufReader, BufWriter, Write};
 

@@ -19,7 +19,7 @@ pub fn play(
     stage: &mut Option<Cast>,
     line: &[u8],
 ) -> anyhow::Result<()> {
-    let command = match read_command(line).command {
+    let command = match read_command(line) {
         Ok(command) => command,
         Err(expected) => {
             say_error(out, expected)?;
@@ -73,7 +73,6 @@ fn answer(out: &mut impl Write, cast: &mut Cast, command: &Command) -> io::Resul
         Command::Ink => commit(out, cast),
         Command::Have => say(out, answers::have(cast.meant())),
         Command::Serve { slip } => say_or_refuse(out, answers::served(cast.meant(), slip)),
-        _ => say_error(out, Expected::Command),
     }
 }
 

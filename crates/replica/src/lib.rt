@@ -1,4 +1,6 @@
 // A replica: its log, and a book that is always the one that the log makes.
+#![tactic(auto)]
+
 pub mod fault;
 pub mod head;
 pub mod laws;

@@ -1,10 +1,13 @@
 // The text of each answer.
-ghost use Rattle.std.specs.Prelude.{Some};
-ghost use Rattle.console.specs.Answers.{answer_text, got_text, standing_text, kind_text};
+ghost use Rattle.std.specs.Prelude.{◌≡◌, Some};
+ghost use Rattle.bookings.specs.Refusals.{number_of};
+ghost use Rattle.console.specs.Answers.{answer_text, stamps_text, got_text, standing_text, kind_text, reason_text, expected_text, form_text};
 
-use super::reasons::{Reason, number};
-use super::stamps::Stamps;
 use super::{Answer, Got, KindName, Standing};
+use crate::command::Expected;
+use crate::verb::Verb;
+use bookings::refusal::Refusal;
+use entry_log::vector::Vector;
 use std::fmt;
 
 impl fmt::Display for Answer {
@@ -45,12 +48,26 @@ impl fmt::Display for Answer {
                 got,
             } => write!(f, "{stamp} {hut} {standing}: {got}"),
             Answer::Served { slip } => write!(f, "served{}", Stamps { vector: *slip }),
-            Answer::Letter { carried } => write!(f, "{carried}"),
-            Answer::Take { taking } => write!(f, "{taking}"),
-            Answer::Opened { opened } => write!(f, "{opened}"),
-            Answer::Usage { usage } => write!(f, "{usage}"),
             Answer::Error { expected } => write!(f, "error: {expected}"),
         }
+    }
+}
+
+// The stamps of a vector, each with a space before it.
+#[derive(Clone, Copy)]
+struct Stamps {
+    vector: Vector,
+}
+
+impl fmt::Display for Stamps {
+    ghost output = { λ s. Some (stamps_text s.vector.stamps) };
+
+    fn fmt<W: fmt::Write>(&self, f: &mut fmt::Formatter<W>) -> fmt::Result {
+        let stamps = self.vector.stamps();
+        for stamp in &stamps {
+            write!(f, " {stamp}")?;
+        }
+        Ok(())
     }
 }
 
@@ -97,6 +114,83 @@ impl fmt::Display for KindName {
             KindName::Cancel => f.write_str("cancel"),
             KindName::Change => f.write_str("change"),
             KindName::Beds => f.write_str("beds"),
+        }
+    }
+}
+
+fn number(why: Refusal) -> u8
+    ensures { result ≡ number_of why }
+{
+    match why {
+        Refusal::Damaged => 1,
+        Refusal::OutOfRange => 2,
+        Refusal::Known => 3,
+        Refusal::NotNext => 4,
+        Refusal::Gap => 5,
+        Refusal::NotPrimary => 6,
+        Refusal::SlipAhead => 7,
+        Refusal::Full => 8,
+        Refusal::Unknown => 9,
+    }
+}
+
+// Why something is refused, in words.
+#[derive(Clone, Copy)]
+struct Reason {
+    why: Refusal,
+}
+
+impl fmt::Display for Reason {
+    ghost output = { λ reason. Some (reason_text reason.why) };
+
+    fn fmt<W: fmt::Write>(&self, f: &mut fmt::Formatter<W>) -> fmt::Result {
+        match self.why {
+            Refusal::Damaged => f.write_str("the letter is damaged"),
+            Refusal::OutOfRange => f.write_str("out of range"),
+            Refusal::Known => f.write_str("known already"),
+            Refusal::NotNext => f.write_str("not the next place in ink"),
+            Refusal::Gap => f.write_str("what stood before it is not known"),
+            Refusal::NotPrimary => f.write_str("this hut does not ink"),
+            Refusal::SlipAhead => f.write_str("the slip knows more than this hut"),
+            Refusal::Full => f.write_str("no room for more"),
+            Refusal::Unknown => f.write_str("no such entry is known"),
+        }
+    }
+}
+
+impl fmt::Display for Expected {
+    ghost output = { λ e. Some (expected_text e) };
+
+    fn fmt<W: fmt::Write>(&self, f: &mut fmt::Formatter<W>) -> fmt::Result {
+        match self {
+            Expected::Command => f.write_str(
+                "expected a command: huts, at, book, cancel, change, beds, ink, have, show, line, got or serve",
+            ),
+            Expected::Form { verb } => write!(f, "expected: {verb}"),
+            Expected::HutsFirst => f.write_str("expected huts first"),
+            Expected::HutsOnce => f.write_str("expected huts only once"),
+        }
+    }
+}
+
+// A verb with what stands behind it.
+impl fmt::Display for Verb {
+    ghost output = { λ v. Some (form_text v) };
+
+    fn fmt<W: fmt::Write>(&self, f: &mut fmt::Formatter<W>) -> fmt::Result {
+        match self {
+            Verb::Huts => f.write_str("huts, then one to four huts"),
+            Verb::At => f.write_str("at I"),
+            Verb::Book => f.write_str("book G, then up to four choices H N K B"),
+            Verb::Cancel => f.write_str("cancel S H"),
+            Verb::Change => f.write_str("change S H, then up to four choices H N K B"),
+            Verb::Beds => f.write_str("beds H N K B"),
+            Verb::Ink => f.write_str("ink"),
+            Verb::Have => f.write_str("have"),
+            Verb::Show => f.write_str("show, or show H N"),
+            Verb::Line => f.write_str("line"),
+            Verb::Got => f.write_str("got S H"),
+            Verb::Serve => f.write_str("serve S0 .. S15"),
         }
     }
 }

@@ -12,4 +12,4 @@ release-beds-requires c = (search rules, c.requires.covered _ _ c.in-Some.ensure
 pub returns : goal.returns
 returns c = λ beds.
     cancel_found (record { beds = beds; booked = c.args.booked.now; marks = map plain_mark c.args.marks.now; outcomes = map plain_outcome c.args.outcomes.now }) (plain_standing c.in-Some.found) _ _ _ c.in-Some.ensures.value
-    c.release-beds.ensures (map-set plain_outcome c.args.outcomes.now c.in-Some.found.place _)
+    c.release_beds.ensures (map-set plain_outcome c.args.outcomes.now c.in-Some.found.place _)

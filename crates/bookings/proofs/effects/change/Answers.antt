@@ -37,5 +37,5 @@ returns-in-default-grant-first c =
 pub returns : goal.returns
 returns c =
     let b : PlainBook = record { beds = c.args.beds.now; booked = c.args.booked.now; marks = map plain_mark c.args.marks.now; outcomes = map plain_outcome c.args.outcomes.now } in
-    change-granted (plain_mark c.args.own) (plain_choices c.args.choices.now) b (plain_standing c.in-Some.found) _ _ c.in-Some.ensures.value c.release-beds.ensures (plain_grant c.in-Some-grant-first.grant) _ _ c.in-Some-grant-first.ensures.value
-    c.in-Some-grant-first.ensures.after (map-set plain_outcome c.args.outcomes.now c.in-Some.found.place _)
+    change-granted (plain_mark c.args.own) (plain_choices c.args.choices.now) b (plain_standing c.in-Some.found) _ _ c.in-Some.ensures.value c.release_beds.ensures (plain_grant c.in-Some-grant_first.grant) _ _ c.in-Some-grant_first.ensures.value
+    c.in-Some-grant_first.ensures.after (map-set plain_outcome c.args.outcomes.now c.in-Some.found.place _)

@@ -16,4 +16,4 @@ returns-then-place-outcomes c =
 pub returns : goal.returns
 returns c =
     let there = outcome_there c.args.outcomes.now c.args.place c.index-outcomes-place.result c.if-place-outcomes.false c.index-outcomes-place.is in
-    record { value = c.once-held.ensures ∙ sym (ap once_held_by there); within = search rules }
+    record { value = c.once_held.ensures ∙ sym (ap once_held_by there); within = search rules }

@@ -9,5 +9,5 @@ returns-in-default c = λ beds. reinstate_none c.args.place _ c.in-default.ensur
 
 pub returns : goal.returns
 returns c = λ beds.
-    reinstate_some c.args.place (record { beds = beds; booked = c.args.booked.now; outcomes = map plain_outcome c.args.outcomes.now }) (plain_grant c.in-Some.grant) _ _ c.in-Some.ensures.value c.claim-beds.ensures
+    reinstate_some c.args.place (record { beds = beds; booked = c.args.booked.now; outcomes = map plain_outcome c.args.outcomes.now }) (plain_grant c.in-Some.grant) _ _ c.in-Some.ensures.value c.claim_beds.ensures
     (map-set plain_outcome c.args.outcomes.now c.args.place _)

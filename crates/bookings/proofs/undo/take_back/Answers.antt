@@ -14,6 +14,6 @@ reinstate-requires c =
     record {
       long = search rules;
       few =
-          subst Few (sym c.release-beds.ensures)
+          subst Few (sym c.release_beds.ensures)
           (few_release c.args.booked.now (plain_choice c.in-Holds.grant.choice) c.requires.long (stay_ok c.in-Holds.grant.choice.stay) c.requires.few);
     }

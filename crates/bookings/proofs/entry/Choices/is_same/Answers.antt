@@ -8,11 +8,11 @@ use Rattle.bookings.proofs.entry.Choices.is_same.Goals as goal
 
 pub loop-i-preserved : goal.loop-i-preserved
 loop-i-preserved c =
-    let ours = c.as-slice-ours.result.now in
-    let theirs = c.as-slice-theirs.result.now in
+    let ours = c.as_slice-ours.result.now in
+    let theirs = c.as_slice-theirs.result.now in
     let one = c.index-ours-i.result in
     let two = c.index-theirs-i.result in
-    let same : plain_choice one ≡ plain_choice two = c.is-same.ensures.sound c.if-not-is-same.false in
+    let same : plain_choice one ≡ plain_choice two = c.is_same.ensures.sound c.if-not-is-same.false in
     map_more plain_choice ours c.loop-i.i one (omega arith)
     ∙ ap (λ x. map plain_choice (take c.loop-i.i ours) ++ plain_choice x ∷ []) (sym c.index-ours-i.is)
     ∙ ap (λ x. map plain_choice (take c.loop-i.i ours) ++ x ∷ []) same
@@ -22,12 +22,12 @@ loop-i-preserved c =
 
 pub returns : goal.returns
 returns c =
-    let ours = c.as-slice-ours.result.now in
-    let theirs = c.as-slice-theirs.result.now in
+    let ours = c.as_slice-ours.result.now in
+    let theirs = c.as_slice-theirs.result.now in
     record {
       sound = λ _.
-          ap (map plain_choice) (sym c.as-slice-ours.ensures ∙ sym (take_all c.loop-i.i ours (omega arith)))
-          ∙ c.loop-i.invariant ∙ ap (map plain_choice) (take_all c.loop-i.i theirs (omega arith) ∙ c.as-slice-theirs.ensures);
+          ap (map plain_choice) (sym c.as_slice-ours.ensures ∙ sym (take_all c.loop-i.i ours (omega arith)))
+          ∙ c.loop-i.invariant ∙ ap (map plain_choice) (take_all c.loop-i.i theirs (omega arith) ∙ c.as_slice-theirs.ensures);
       complete = λ _. refl;
     }
 
@@ -38,12 +38,12 @@ same_lent ours theirs a b is_ours is-theirs same = ap (map plain_choice) is_ours
 -- two that are the same have as many choices
 pub returns-then-ours-theirs : goal.returns-then-ours-theirs
 returns-then-ours-theirs c =
-    let ours = c.as-slice-ours.result.now in
-    let theirs = c.as-slice-theirs.result.now in
+    let ours = c.as_slice-ours.result.now in
+    let theirs = c.as_slice-theirs.result.now in
     record {
       sound = λ no. cc;
       complete = λ same.
-          let lent = same_lent ours theirs c.args.self.now c.args.other.now c.as-slice-ours.ensures c.as-slice-theirs.ensures same in
+          let lent = same_lent ours theirs c.args.self.now c.args.other.now c.as_slice-ours.ensures c.as_slice-theirs.ensures same in
           absurd (c.if-ours-theirs.true (omega (arith, ap length lent, length-map ours plain_choice, length-map theirs plain_choice)));
     }
 
