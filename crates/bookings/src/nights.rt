@@ -18,8 +18,8 @@ pub(crate) fn first_night(stay: &Stay) -> usize
 
 // Books the beds of a choice.
 pub(crate) fn claim_beds(booked: &mut [u32], choice: &Choice)
-    requires booked_len { length booked.old ≡ 5856 }
-    requires by_index { (k : ℕ) → k < choice.now.stay.nights → slice_index booked.old (first (plain_stay choice.now.stay) + k) + choice.now.beds < 2 ^ 32 }
+    requires long { length booked.old ≡ 5856 }
+    requires fits { (k : ℕ) → k < choice.now.stay.nights → slice_index booked.old (first (plain_stay choice.now.stay) + k) + choice.now.beds < 2 ^ 32 }
     ensures { booked.new ≡ claim booked.old (plain_choice choice.now) }
 {
     let from = first_night(&choice.stay);
@@ -31,8 +31,8 @@ pub(crate) fn claim_beds(booked: &mut [u32], choice: &Choice)
 
 // Gives the beds of a choice back.
 pub(crate) fn release_beds(booked: &mut [u32], choice: &Choice)
-    requires booked_len { length booked.old ≡ 5856 }
-    requires by_index { (k : ℕ) → k < choice.now.stay.nights → choice.now.beds ≤ slice_index booked.old (first (plain_stay choice.now.stay) + k) }
+    requires long { length booked.old ≡ 5856 }
+    requires held { (k : ℕ) → k < choice.now.stay.nights → choice.now.beds ≤ slice_index booked.old (first (plain_stay choice.now.stay) + k) }
     ensures { booked.new ≡ release booked.old (plain_choice choice.now) }
 {
     let from = first_night(&choice.stay);

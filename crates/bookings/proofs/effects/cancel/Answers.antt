@@ -6,8 +6,8 @@ use Rattle.bookings.specs.Views.{plain_standing}
 use Rattle.bookings.proofs.Deeds.{cancel_found}
 use Rattle.bookings.proofs.effects.cancel.Goals as goal
 
-pub release-beds-requires : goal.release-beds-requires
-release-beds-requires c = (search rules, c.requires.covered _ _ c.in-Some.ensures.there.1)
+pub release_beds-requires : goal.release_beds-requires
+release_beds-requires c = record { long = search rules; held = c.requires.covered _ _ c.in-Some.ensures.there.1 }
 
 pub returns : goal.returns
 returns c = λ beds.

@@ -10,28 +10,29 @@ use Rattle.bookings.proofs.Over.{release-at, claim_after_release}
 use Rattle.bookings.proofs.Ranged.{stay_ok}
 use Rattle.bookings.proofs.effects.change.Goals as goal
 
-pub release-beds-requires : goal.release-beds-requires
-release-beds-requires c = (search rules, c.requires.covered _ _ c.in-Some.ensures.there.1)
+pub release_beds-requires : goal.release_beds-requires
+release_beds-requires c = record { long = search rules; held = c.requires.covered _ _ c.in-Some.ensures.there.1 }
 
-pub claim-beds-requires : goal.claim-beds-requires
-claim-beds-requires c =
+pub claim_beds-requires : goal.claim_beds-requires
+claim_beds-requires c =
     let choice = c.in-Some.found.grant.choice in
     let from = first (plain_stay choice.stay) in
-    let held = c.requires.covered _ _ c.in-Some.ensures.there.1 in (
-      search rules,
-      λ k h.
+    let held = c.requires.covered _ _ c.in-Some.ensures.there.1 in
+    record {
+      long = search rules;
+      fits = λ k h.
           let left =
-          ap (λ l. get_or l (from + k) 0) (c.in-default-grant-first.ensures.after ∙ c.release-beds.ensures)
+          ap (λ l. get_or l (from + k) 0) (c.in_default-grant_first.ensures.after ∙ c.release_beds.ensures)
           ∙ release-at c.args.booked.now (plain_choice choice) c.requires.long (stay_ok choice.stay) k h in
-          omega (arith, held k h, c.requires.few (from + k)),
-    )
+          omega (arith, held k h, c.requires.few (from + k));
+    }
 
-pub returns-in-default-grant-first : goal.returns-in-default-grant-first
-returns-in-default-grant-first c =
+pub returns-in_default-grant_first : goal.returns-in_default-grant_first
+returns-in_default-grant_first c =
     let choice = plain_choice c.in-Some.found.grant.choice in
     let b : PlainBook = record { beds = c.args.beds.now; booked = c.args.booked.now; marks = map plain_mark c.args.marks.now; outcomes = map plain_outcome c.args.outcomes.now } in
-    change_kept (plain_mark c.args.own) (plain_choices c.args.choices.now) b (plain_standing c.in-Some.found) _ _ c.in-Some.ensures.value c.release-beds.ensures _ c.in-default-grant-first.ensures.value
-    (c.claim-beds.ensures ∙ ap (λ x. claim x choice) (c.in-default-grant-first.ensures.after ∙ c.release-beds.ensures)
+    change_kept (plain_mark c.args.own) (plain_choices c.args.choices.now) b (plain_standing c.in-Some.found) _ _ c.in-Some.ensures.value c.release_beds.ensures _ c.in_default-grant_first.ensures.value
+    (c.claim_beds.ensures ∙ ap (λ x. claim x choice) (c.in_default-grant_first.ensures.after ∙ c.release_beds.ensures)
     ∙ claim_after_release c.args.booked.now choice c.requires.long (stay_ok c.in-Some.found.grant.choice.stay) (c.requires.covered _ _ c.in-Some.ensures.there.1))
 
 pub returns : goal.returns

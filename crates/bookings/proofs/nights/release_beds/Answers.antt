@@ -4,11 +4,11 @@ use Rattle.bookings.specs.Plain.{plain_stay}
 use Rattle.bookings.proofs.Over.{over_next, over_step}
 use Rattle.bookings.proofs.nights.release_beds.Goals as goal
 
-pub overflow-sub-booked : goal.overflow-sub-booked
-overflow-sub-booked c =
+pub overflow_sub-booked : goal.overflow_sub-booked
+overflow_sub-booked c =
     let same =
-    over_next (λ _ x. x - c.args.choice.now.beds) c.loop-n.booked c.args.booked.now c.first-night-from.result (first (plain_stay c.args.choice.now.stay)) c.loop-n.n c.loop-n.invariant c.first-night-from.ensures.0 in
-    let held = c.requires.1 c.loop-n.n c.loop-n-test.true in
+    over_next (λ _ x. x - c.args.choice.now.beds) c.loop-n.booked c.args.booked.now c.first_night-from.result (first (plain_stay c.args.choice.now.stay)) c.loop-n.n c.loop-n.invariant c.first_night-from.ensures.0 in
+    let held = c.requires.held c.loop-n.n c.loop-n-test.true in
     search rules
 
 pub loop-n-preserved : goal.loop-n-preserved

@@ -5,13 +5,13 @@ use Rattle.bookings.specs.Plain.{plain_mark}
 use Rattle.bookings.proofs.Find.{held_is, outcome_there, stands_there}
 use Rattle.bookings.proofs.standing.find_standing.Goals as goal
 
-pub returns-in-default-held : goal.returns-in-default-held
-returns-in-default-held c =
+pub returns-in_default-held : goal.returns-in_default-held
+returns-in_default-held c =
     record {
       value =
           sym
           (stands_there (map plain_mark c.args.marks.now) c.args.outcomes.now (plain_mark c.args.mark.now) c.in-Some.place c.index-outcomes-place.result c.in-Some.ensures.value (search rules) c.index-outcomes-place.is
-          ∙ ap (standing_with c.in-Some.place) (sym c.in-default-held.ensures));
+          ∙ ap (standing_with c.in-Some.place) (sym c.in_default-held.ensures));
       there = tt;
     }
 

@@ -6,8 +6,8 @@ use Rattle.bookings.proofs.Back.{few_release}
 use Rattle.bookings.proofs.Ranged.{stay_ok}
 use Rattle.bookings.proofs.undo.take_back.Goals as goal
 
-pub release-beds-requires : goal.release-beds-requires
-release-beds-requires c = (search rules, c.requires.covered 0 (plain_grant c.in-Holds.grant) (ap plain_outcome c.in-Holds.is))
+pub release_beds-requires : goal.release_beds-requires
+release_beds-requires c = record { long = search rules; held = c.requires.covered 0 (plain_grant c.in-Holds.grant) (ap plain_outcome c.in-Holds.is) }
 
 pub reinstate-requires : goal.reinstate-requires
 reinstate-requires c =

@@ -11,23 +11,23 @@ use Rattle.bookings.proofs.Reach.{reached_sound, reached_covered, reached_few, r
 use Rattle.bookings.proofs.Undoing.{undone-does}
 use Rattle.bookings.proofs.Whole.{same_book, same_rest, undone_is, covered_one, popped_last, popped_front, done_some}
 use Rattle.bookings.proofs.book.Book.undo.Goals as goal
-use Rattle.bookings.proofs.book.Book.undo.Goals.{In-default, In-Some, After-take-back}
+use Rattle.bookings.proofs.book.Book.undo.Goals.{In_default, In-Some, After-take_back}
 
 -- nothing was there to take out
-unchanged : (c : In-default) → record { beds = vec_items c.args.self.now.beds; booked = vec_items c.args.self.now.booked; marks = map plain_mark (vec_items c.args.self.now.marks); outcomes = map plain_outcome (vec_items c.pop.new.self) } ≡ book_in c.args.self.now
-unchanged c = same_book refl refl refl (ap (map plain_outcome) (sym (c.in-default.ensures.items ∙ append-nil (vec_items c.pop.new.self))))
+unchanged : (c : In_default) → record { beds = vec_items c.args.self.now.beds; booked = vec_items c.args.self.now.booked; marks = map plain_mark (vec_items c.args.self.now.marks); outcomes = map plain_outcome (vec_items c.pop.new.self) } ≡ book_in c.args.self.now
+unchanged c = same_book refl refl refl (ap (map plain_outcome) (sym (c.in_default.ensures.items ∙ append-nil (vec_items c.pop.new.self))))
 
-empty : (c : In-default) → length (book_in c.args.self.now).marks ≡ 0
+empty : (c : In_default) → length (book_in c.args.self.now).marks ≡ 0
 empty c =
     let paired = (reached_sound (book_in c.args.self.now) c.args.self.now.reached).1 in
-    paired ∙ length-map (vec_items c.args.self.now.outcomes) plain_outcome ∙ sym c.args.self.now.outcomes.ok.0 ∙ c.in-default.ensures.cases.0
+    paired ∙ length-map (vec_items c.args.self.now.outcomes) plain_outcome ∙ sym c.args.self.now.outcomes.ok.0 ∙ c.in_default.ensures.cases.0
 
-pub invariant-of-self : goal.invariant-of-self
-invariant-of-self c = (subst Reached (sym (unchanged c)) c.args.self.now.reached, (search rules, tt))
+pub invariant_of-self : goal.invariant_of-self
+invariant_of-self c = record { reached = subst Reached (sym (unchanged c)) c.args.self.now.reached; room = search rules }
 
-pub returns-in-default : goal.returns-in-default
-returns-in-default c =
-    let there = (goal.at.returns-in-default c).In-default in
+pub returns-in_default : goal.returns-in_default
+returns-in_default c =
+    let there = (goal.at.returns-in_default c).In_default in
     let none = empty there in
     record {
       test = sym (le-ltb 0 _ (omega arith));
@@ -47,39 +47,42 @@ last_is : (c : In-Some) → plain_outcome c.in-Some.last ≡ get_or (book_in c.a
 last_is c =
     popped_last plain_outcome (vec_items c.args.self.now.outcomes) (vec_len c.args.self.now.outcomes) c.in-Some.last nothing c.args.self.now.outcomes.ok.0 (some_outcome c) (c.in-Some.ensures.value c.in-Some.last (some_outcome c))
 
-pub take-back-requires : goal.take-back-requires
-take-back-requires c =
+pub take_back-requires : goal.take_back-requires
+take_back-requires c =
     let b = book_in c.args.self.now in
     let reached = c.args.self.now.reached in
     let sound = reached_sound b reached in
     record {
-      long_beds = ap length c.as-mut-slice.ensures.value ∙ sound.0.long_beds;
-      long = ap length c.as-mut-slice-2.ensures.value ∙ sound.0.long_booked;
-      covered = rw c.as-mut-slice-2.ensures.value (covered_one b.booked b.outcomes _ (plain_outcome c.in-Some.last) (reached_covered b reached) (last_is (goal.at.take-back-requires c).In-Some));
-      few = rw c.as-mut-slice-2.ensures.value (reached_few b reached);
+      long_beds = ap length c.as_mut_slice.ensures.value ∙ sound.0.long_beds;
+      long = ap length c.as_mut_slice-2.ensures.value ∙ sound.0.long_booked;
+      covered = rw c.as_mut_slice-2.ensures.value (covered_one b.booked b.outcomes _ (plain_outcome c.in-Some.last) (reached_covered b reached) (last_is (goal.at.take_back-requires c).In-Some));
+      few = rw c.as_mut_slice-2.ensures.value (reached_few b reached);
     }
 
 -- the book as it stands once the last entry is taken out and taken back
 done :
-    (c : After-take-back)
-    → record { beds = (with_items c.args.self.now.beds c.take-back.new.beds).items; booked = (with_items c.args.self.now.booked c.take-back.new.booked).items; marks = map plain_mark (vec_items c.pop-2.new.self); outcomes = map plain_outcome (with_items c.pop.new.self c.take-back.new.outcomes).items }
+    (c : After-take_back)
+    → record { beds = (with_items c.args.self.now.beds c.take_back.new.beds).items; booked = (with_items c.args.self.now.booked c.take_back.new.booked).items; marks = map plain_mark (vec_items c.pop-2.new.self); outcomes = map plain_outcome (with_items c.pop.new.self c.take_back.new.outcomes).items }
     ≡ undone (book_in c.args.self.now)
 done c =
     let was = c.args.self.now in
-    let long_beds : length c.take-back.new.beds ≡ was.beds.len = search rules in
-    let long_booked : length c.take-back.new.booked ≡ was.booked.len = search rules in
-    let long-outcomes : length c.take-back.new.outcomes ≡ c.pop.new.self.len = search rules in
+    let long_beds : length c.take_back.new.beds ≡ was.beds.len = search rules in
+    let long_booked : length c.take_back.new.booked ≡ was.booked.len = search rules in
+    let long-outcomes : length c.take_back.new.outcomes ≡ c.pop.new.self.len = search rules in
     let front = popped_front plain_outcome (vec_items was.outcomes) (vec_items c.pop.new.self) (vec_len was.outcomes) was.outcomes.ok.0 c.in-Some.ensures.rest in
-    undone_is (book_in was) _ (record { beds = c.take-back.new.beds; booked = c.take-back.new.booked; outcomes = map plain_outcome c.take-back.new.outcomes }) (plain_outcome c.in-Some.last) _ _ _ _
-    (same_rest c.as-mut-slice.ensures.value c.as-mut-slice-2.ensures.value (ap (map plain_outcome) c.as-mut-slice-3.ensures.value ∙ front))
-    (last_is (goal.at.After-take-back c).In-Some) c.take-back.ensures
-    (with_items_is was.beds c.take-back.new.beds long_beds) (with_items_is was.booked c.take-back.new.booked long_booked)
+    undone_is (book_in was) _ (record { beds = c.take_back.new.beds; booked = c.take_back.new.booked; outcomes = map plain_outcome c.take_back.new.outcomes }) (plain_outcome c.in-Some.last) _ _ _ _
+    (same_rest c.as_mut_slice.ensures.value c.as_mut_slice-2.ensures.value (ap (map plain_outcome) c.as_mut_slice-3.ensures.value ∙ front))
+    (last_is (goal.at.After-take_back c).In-Some) c.take_back.ensures
+    (with_items_is was.beds c.take_back.new.beds long_beds) (with_items_is was.booked c.take_back.new.booked long_booked)
     (popped_front plain_mark (vec_items was.marks) (vec_items c.pop-2.new.self) (vec_len was.marks) was.marks.ok.0 c.pop-2.ensures.rest)
-    (ap (map plain_outcome) (with_items_is c.pop.new.self c.take-back.new.outcomes long-outcomes))
+    (ap (map plain_outcome) (with_items_is c.pop.new.self c.take_back.new.outcomes long-outcomes))
 
-pub invariant-of-self-2 : goal.invariant-of-self-2
-invariant-of-self-2 c =
-    (subst Reached (sym (done (goal.at.invariant-of-self-2 c).After-take-back)) (reached_undone (book_in c.args.self.now) c.args.self.now.reached (some_mark (goal.at.invariant-of-self-2 c).In-Some)), (search rules, tt))
+pub invariant_of-self-2 : goal.invariant_of-self-2
+invariant_of-self-2 c =
+    record {
+      reached = subst Reached (sym (done (goal.at.invariant_of-self-2 c).After-take_back)) (reached_undone (book_in c.args.self.now) c.args.self.now.reached (some_mark (goal.at.invariant_of-self-2 c).In-Some));
+      room = search rules;
+    }
 
 pub returns : goal.returns
 returns c =
@@ -87,5 +90,5 @@ returns c =
     record {
       test = sym (lt-ltb 0 _ some);
       none = λ none. absurd (omega arith);
-      before = λ e b ok reached is. done (goal.at.returns c).After-take-back ∙ ap undone is ∙ undone-does e b ok (reached_sound b reached);
+      before = λ e b ok reached is. done (goal.at.returns c).After-take_back ∙ ap undone is ∙ undone-does e b ok (reached_sound b reached);
     }

@@ -12,7 +12,7 @@ loop-i-preserved c =
     let theirs = c.as_slice-theirs.result.now in
     let one = c.index-ours-i.result in
     let two = c.index-theirs-i.result in
-    let same : plain_choice one ≡ plain_choice two = c.is_same.ensures.sound c.if-not-is-same.false in
+    let same : plain_choice one ≡ plain_choice two = c.is_same.ensures.sound c.if-not-is_same.false in
     map_more plain_choice ours c.loop-i.i one (omega arith)
     ∙ ap (λ x. map plain_choice (take c.loop-i.i ours) ++ plain_choice x ∷ []) (sym c.index-ours-i.is)
     ∙ ap (λ x. map plain_choice (take c.loop-i.i ours) ++ x ∷ []) same
@@ -48,19 +48,19 @@ returns-then-ours-theirs c =
     }
 
 -- and the same at each place
-pub returns-then-not-is-same : goal.returns-then-not-is-same
-returns-then-not-is-same c =
-    let ours = c.as-slice-ours.result.now in
-    let theirs = c.as-slice-theirs.result.now in
+pub returns-then-not-is_same : goal.returns-then-not-is_same
+returns-then-not-is_same c =
+    let ours = c.as_slice-ours.result.now in
+    let theirs = c.as_slice-theirs.result.now in
     let i = c.loop-i.i in
     let one = c.index-ours-i.result in
     let two = c.index-theirs-i.result in
     record {
       sound = λ no. cc;
       complete = λ same.
-          let lent = same_lent ours theirs c.args.self.now c.args.other.now c.as-slice-ours.ensures c.as-slice-theirs.ensures same in
+          let lent = same_lent ours theirs c.args.self.now c.args.other.now c.as_slice-ours.ensures c.as_slice-theirs.ensures same in
           let there : plain_choice one ≡ plain_choice two =
           ap plain_choice c.index-ours-i.is ∙ sym (get_or-map plain_choice ours i one (plain_choice one) (omega arith)) ∙ ap (λ l. get_or l i (plain_choice one)) lent
           ∙ get_or-map plain_choice theirs i two (plain_choice one) (omega arith) ∙ ap plain_choice (sym c.index-theirs-i.is) in
-          sym c.if-not-is-same.true ∙ c.is-same.ensures.complete there;
+          sym c.if-not-is_same.true ∙ c.is_same.ensures.complete there;
     }
