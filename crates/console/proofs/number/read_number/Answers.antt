@@ -2,10 +2,10 @@ use Rattle.std.proofs.Common.{◌-◌, sym, ◌∙◌, arith}
 use Rattle.console.proofs.Digits.{digits_bad, digits_on, digits_end, number_from_digits, ten_times_more}
 use Rattle.console.proofs.number.read_number.Goals as goal
 
-pub returns-in-default : goal.returns-in-default
-returns-in-default c =
+pub returns-in_default : goal.returns-in_default
+returns-in_default c =
     sym (number_from_digits c.args.word.now (λ z. omega arith) (omega arith) ∙ sym c.loop-b.invariant.0
-    ∙ digits_bad c.args.word.now c.loop-b.n c.loop-b.b-index c.loop-b-test.true c.in-default.ensures)
+    ∙ digits_bad c.args.word.now c.loop-b.n c.loop-b.b-index c.loop-b-test.true c.in_default.ensures)
 
 pub loop-b-preserved : goal.loop-b-preserved
 loop-b-preserved c = (

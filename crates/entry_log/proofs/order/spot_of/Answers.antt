@@ -15,14 +15,14 @@ loop-i-preserved c =
     let there = mark_there c.args.part.now i c.index-part-i.result (omega arith) c.index-part-i.is in
     let within : i < length (map plain c.args.part.now) = simp length-map (omega arith) in
     spot_low (plain_mark c.args.mark.now) (map plain c.args.part.now) i (plain c.index-part-i.result) within
-    (ap (before (plain_mark c.args.mark.now)) there ∙ sym c.if-not-is-before.ensures)
+    (ap (before (plain_mark c.args.mark.now)) there ∙ sym c.if-not-is_before.ensures)
 
-pub returns-then-not-is-before : goal.returns-then-not-is-before
-returns-then-not-is-before c =
+pub returns-then-not-is_before : goal.returns-then-not-is_before
+returns-then-not-is_before c =
     let i : ℕ = c.loop-i.i - 1 in
     let there = mark_there c.args.part.now i c.index-part-i.result (omega arith) c.index-part-i.is in
     let within : i < length (map plain c.args.part.now) = simp length-map (omega arith) in
     let high =
     spot_high (plain_mark c.args.mark.now) (map plain c.args.part.now) i (plain c.index-part-i.result) c.requires within
-    (ap (before (plain_mark c.args.mark.now)) there ∙ sym c.if-not-is-before.ensures) in
+    (ap (before (plain_mark c.args.mark.now)) there ∙ sym c.if-not-is_before.ensures) in
     omega arith

@@ -8,8 +8,8 @@ use Rattle.journal.proofs.open.replay_all.Goals as goal
 pub loop-record-init : goal.loop-record-init
 loop-record-init c = replaying_none (state_of c.args.replica.now) c.args.bytes.now _ c.requires c.new-reader.ensures
 
-pub overflow-sub-whole : goal.overflow-sub-whole
-overflow-sub-whole c =
+pub overflow_sub-whole : goal.overflow_sub-whole
+overflow_sub-whole c =
     subst (λ (n : ℕ). n ≤ length c.args.bytes.now) (sym (ap length c.rest.ensures))
     (replaying_within _ _ _ _ _ c.loop-record.invariant (plain_record c.in-Ok.record) c.read.new.reader.rest.now c.in-Ok.ensures.form.0)
 
@@ -29,13 +29,13 @@ loop-record-preserved c =
     c.in-Ok-replay.ensures.0
     c.in-Ok-replay.ensures.1)
 
-pub returns-in-default : goal.returns-in-default
-returns-in-default c = replaying_wrong _ _ _ _ _ c.loop-record.invariant c.in-default.field-0 _ c.in-default.ensures.value refl
+pub returns-in_default : goal.returns-in_default
+returns-in_default c = replaying_wrong _ _ _ _ _ c.loop-record.invariant c.in_default.field-0 _ c.in_default.ensures.value refl
 
-pub returns-in-default-replay : goal.returns-in-default-replay
-returns-in-default-replay c =
-    replaying_refused _ _ _ _ _ c.loop-record.invariant (plain_record c.in-Ok.record) c.read.new.reader.rest.now (number_of c.in-default-replay.field-0)
+pub returns-in_default-replay : goal.returns-in_default-replay
+returns-in_default-replay c =
+    replaying_refused _ _ _ _ _ c.loop-record.invariant (plain_record c.in-Ok.record) c.read.new.reader.rest.now (number_of c.in_default-replay.field-0)
     (state_of c.replay.new.replica)
     c.in-Ok.ensures.value
-    c.in-default-replay.ensures.0
-    c.in-default-replay.ensures.1
+    c.in_default-replay.ensures.0
+    c.in_default-replay.ensures.1

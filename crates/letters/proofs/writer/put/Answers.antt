@@ -8,9 +8,9 @@ loop-byte-preserved c =
     let part = c.args.part.now in
     let i = c.loop-byte.byte-index in
     let next = get_or part i 0 ∷ [] in
-    written_as c.args.out.now c.push-reserved.new.self _ _ (sym (take_more part i 0 c.loop-byte-test.true))
-    (written_then c.args.out.now c.loop-byte.out c.push-reserved.new.self (take i part) next c.loop-byte.invariant
-    (record { items = c.push-reserved.ensures.items; len = c.push-reserved.ensures.len; capacity = c.push-reserved.ensures.capacity }))
+    written_as c.args.out.now c.push_reserved.new.self _ _ (sym (take_more part i 0 c.loop-byte-test.true))
+    (written_then c.args.out.now c.loop-byte.out c.push_reserved.new.self (take i part) next c.loop-byte.invariant
+    (record { items = c.push_reserved.ensures.items; len = c.push_reserved.ensures.len; capacity = c.push_reserved.ensures.capacity }))
 
 pub returns : goal.returns
 returns c =

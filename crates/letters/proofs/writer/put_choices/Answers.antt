@@ -10,12 +10,12 @@ use Rattle.letters.proofs.writer.put_choices.Goals as goal
 pub loop-choice-init : goal.loop-choice-init
 loop-choice-init c = written_none c.put.new.out
 
-pub put-choice-requires : goal.put-choice-requires
-put-choice-requires c =
+pub put_choice-requires : goal.put_choice-requires
+put_choice-requires c =
     let all = listed c.args.choices.now in
     let i = c.loop-choice.choice-index in
     let x = c.choice-item.result in
-    let slice_is = c.as-slice-choice-items.ensures in
+    let slice_is = c.as_slice-choice-items.ensures in
     let first = length (plain_choices c.args.choices.now) ∷ [] in
     room_next encode_choice plain_choice c.put.new.out all c.loop-choice.out i x x
     (subst (λ (xs : List Choice). i < length xs) slice_is c.loop-choice-test.true)
@@ -28,12 +28,12 @@ pub loop-choice-preserved : goal.loop-choice-preserved
 loop-choice-preserved c =
     let i = c.loop-choice.choice-index in
     let x = c.choice-item.result in
-    let slice_is = c.as-slice-choice-items.ensures in
-    writes_more encode_choice plain_choice c.put.new.out (listed c.args.choices.now) c.loop-choice.out c.put-choice.new.out i x x
+    let slice_is = c.as_slice-choice-items.ensures in
+    writes_more encode_choice plain_choice c.put.new.out (listed c.args.choices.now) c.loop-choice.out c.put_choice.new.out i x x
     (subst (λ (xs : List Choice). i < length xs) slice_is c.loop-choice-test.true)
     (subst (λ (xs : List Choice). x ≡ get_or xs i x) slice_is c.choice-item.is)
     c.loop-choice.invariant
-    c.put-choice.ensures
+    c.put_choice.ensures
 
 pub returns : goal.returns
 returns c =
@@ -43,5 +43,5 @@ returns c =
     written_then c.args.out.now c.put.new.out c.loop-choice.out first (flat_map encode_choice (map plain_choice all))
     (written_as c.args.out.now c.put.new.out _ first (ap (λ (n : ℕ). n ∷ []) (count_is c.args.choices.now)) c.put.ensures)
     (writes_all encode_choice plain_choice c.put.new.out all c.loop-choice.out i
-    (subst (λ (xs : List Choice). length xs ≤ i) c.as-slice-choice-items.ensures c.loop-choice-test.false)
+    (subst (λ (xs : List Choice). length xs ≤ i) c.as_slice-choice-items.ensures c.loop-choice-test.false)
     c.loop-choice.invariant)

@@ -9,9 +9,9 @@ returns-in-Book c =
     rw c.in-Book.is
     (record {
       written =
-          written_then c.args.out.now c.put.new.out c.put-choices.new.out (1 ∷ four c.in-Book.guest) (encode_choices (plain_choices c.in-Book.choices))
-          (simp c.to-be-bytes.ensures at c.put.ensures)
-          c.put-choices.ensures;
+          written_then c.args.out.now c.put.new.out c.put_choices.new.out (1 ∷ four c.in-Book.guest) (encode_choices (plain_choices c.in-Book.choices))
+          (simp c.to_be_bytes.ensures at c.put.ensures)
+          c.put_choices.ensures;
       fits = omega arith;
     })
 
@@ -20,10 +20,10 @@ returns-in-Cancel c =
     rw c.in-Cancel.is
     (record {
       written =
-          written_then c.args.out.now c.put-in-Cancel.new.out c.put-mark.new.out (2 ∷ []) (encode_mark (plain_mark c.in-Cancel.mark))
+          written_then c.args.out.now c.put-in-Cancel.new.out c.put_mark.new.out (2 ∷ []) (encode_mark (plain_mark c.in-Cancel.mark))
           c.put-in-Cancel.ensures
-          c.put-mark.ensures.written;
-      fits = c.put-mark.ensures.fits;
+          c.put_mark.ensures.written;
+      fits = c.put_mark.ensures.fits;
     })
 
 pub returns-in-Change : goal.returns-in-Change
@@ -31,13 +31,13 @@ returns-in-Change c =
     rw c.in-Change.is
     (record {
       written =
-          written_then c.args.out.now c.put-mark-in-Change.new.out c.put-choices-in-Change.new.out (3 ∷ encode_mark (plain_mark c.in-Change.mark))
+          written_then c.args.out.now c.put_mark-in-Change.new.out c.put_choices-in-Change.new.out (3 ∷ encode_mark (plain_mark c.in-Change.mark))
           (encode_choices (plain_choices c.in-Change.choices))
-          (written_then c.args.out.now c.put-in-Change.new.out c.put-mark-in-Change.new.out (3 ∷ []) (encode_mark (plain_mark c.in-Change.mark))
+          (written_then c.args.out.now c.put-in-Change.new.out c.put_mark-in-Change.new.out (3 ∷ []) (encode_mark (plain_mark c.in-Change.mark))
           c.put-in-Change.ensures
-          c.put-mark-in-Change.ensures.written)
-          c.put-choices-in-Change.ensures;
-      fits = c.put-mark-in-Change.ensures.fits;
+          c.put_mark-in-Change.ensures.written)
+          c.put_choices-in-Change.ensures;
+      fits = c.put_mark-in-Change.ensures.fits;
     })
 
 pub returns-in-Beds : goal.returns-in-Beds
@@ -45,8 +45,8 @@ returns-in-Beds c =
     rw c.in-Beds.is
     (record {
       written =
-          written_then c.args.out.now c.put-in-Beds.new.out c.put-choice.new.out (4 ∷ []) (encode_choice (plain_supply c.in-Beds.supply))
+          written_then c.args.out.now c.put-in-Beds.new.out c.put_choice.new.out (4 ∷ []) (encode_choice (plain_supply c.in-Beds.supply))
           c.put-in-Beds.ensures
-          c.put-choice.ensures;
+          c.put_choice.ensures;
       fits = tt;
     })

@@ -8,9 +8,9 @@ pub returns : goal.returns
 returns c =
     record {
       written =
-          written_then c.args.out.now c.put-mark.new.out c.put-kind.new.out (encode_mark (plain_mark c.args.entry.now.mark))
+          written_then c.args.out.now c.put_mark.new.out c.put_kind.new.out (encode_mark (plain_mark c.args.entry.now.mark))
           (encode_kind (plain_kind c.args.entry.now.kind))
-          c.put-mark.ensures.written
-          c.put-kind.ensures.written;
-      fits = record { ranged = in_range c.args.entry.now; stamp_fits = c.put-mark.ensures.fits; kind_fits = c.put-kind.ensures.fits };
+          c.put_mark.ensures.written
+          c.put_kind.ensures.written;
+      fits = record { ranged = in_range c.args.entry.now; stamp_fits = c.put_mark.ensures.fits; kind_fits = c.put_kind.ensures.fits };
     }

@@ -7,8 +7,8 @@ use Rattle.network.specs.Items.{items_taken}
 use Rattle.network.specs.Taking.{plain_outcome, is_damaged, kept_out, outcomes_of}
 use Rattle.network.proofs.takes.take.Goals as goal
 
-pub take-all-requires : goal.take-all-requires
-take-all-requires g c =
+pub take_all-requires : goal.take_all-requires
+take_all-requires g c =
     record {
       empty = c.clear.ensures.len;
       capacity = omega (arith, heard-few c.args.bytes.now, ap (λ h. length (items_of h)) c.in-Ok.ensures, c.clear.ensures.capacity, c.args.report.now.room);

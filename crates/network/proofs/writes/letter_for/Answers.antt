@@ -28,38 +28,38 @@ module _ (g : Over) (c : After-write-letter g) where
   few : length was.log.committed ≤ 65536
   few = omega (arith, log_few c.args.keeper.now.replica.log, length-append was.log.committed was.log.tentative)
 
-  letter : letter_of c.place-from.result c.committed.result.now c.tentative.result.now ≡ letter_for c.args.has.now.committed c.args.has.now.vector.stamps was
+  letter : letter_of c.place_from.result c.committed.result.now c.tentative.result.now ≡ letter_for c.args.has.now.committed c.args.has.now.vector.stamps was
   letter =
-      letter_is c.args.has.now.committed c.args.has.now.vector.stamps was c.committed.result.now c.tentative.result.now c.place-from.result few c.place-from.ensures
-      (c.committed.ensures ∙ ap (λ (p : PlainParcel). p.committed) (c.hand-on.ensures ∙ packed))
-      (c.tentative.ensures ∙ ap (λ (p : PlainParcel). p.tentative) (c.hand-on.ensures ∙ packed))
+      letter_is c.args.has.now.committed c.args.has.now.vector.stamps was c.committed.result.now c.tentative.result.now c.place_from.result few c.place_from.ensures
+      (c.committed.ensures ∙ ap (λ (p : PlainParcel). p.committed) (c.hand_on.ensures ∙ packed))
+      (c.tentative.ensures ∙ ap (λ (p : PlainParcel). p.tentative) (c.hand_on.ensures ∙ packed))
 
   -- a letter for any parcel finds room
-  enough : vec_len c.args.out.now + 98345 ≤ vec_capacity c.args.out.now → is_ok c.write-letter.result ≡ true
+  enough : vec_len c.args.out.now + 98345 ≤ vec_capacity c.args.out.now → is_ok c.write_letter.result ≡ true
   enough room =
       let small = parcel_is_small_lem c.args.has.now.committed c.args.has.now.vector.stamps was in
       let committed = sym (length-map c.committed.result.now plain) ∙ ap (λ (l : PlainLetter). length l.committed) letter in
       let tentative = sym (length-map c.tentative.result.now plain_waiting) ∙ ap (λ (l : PlainLetter). length l.tentative) letter in
-      c.write-letter.ensures.enough room (omega (arith, small, committed, tentative))
+      c.write_letter.ensures.enough room (omega (arith, small, committed, tentative))
 
-pub returns-in-Ok-write-letter : goal.returns-in-Ok-write-letter
-returns-in-Ok-write-letter g c =
-    let at = (goal.at.returns-in-Ok-write-letter g c).After-write-letter in
+pub returns-in-Ok-write_letter : goal.returns-in-Ok-write_letter
+returns-in-Ok-write_letter g c =
+    let at = (goal.at.returns-in-Ok-write_letter g c).After-write-letter in
     record {
-      written = subst (λ (l : PlainLetter). Written c.args.out.now c.write-letter.new.out (encode_letter l)) (letter g at) c.in-Ok-write-letter.ensures.written;
-      lawful = subst LetterOk (letter g at) c.in-Ok-write-letter.ensures.lawful;
+      written = subst (λ (l : PlainLetter). Written c.args.out.now c.write_letter.new.out (encode_letter l)) (letter g at) c.in-Ok-write_letter.ensures.written;
+      lawful = subst LetterOk (letter g at) c.in-Ok-write_letter.ensures.lawful;
       kept = c.in-Ok.ensures.kept;
       room = c.in-Ok.ensures.room;
       sure = λ k in_step roomy room. refl;
     }
 
-pub returns-in-Err-write-letter : goal.returns-in-Err-write-letter
-returns-in-Err-write-letter g c =
-    let at = (goal.at.returns-in-Err-write-letter g c).After-write-letter in
+pub returns-in-Err-write_letter : goal.returns-in-Err-write_letter
+returns-in-Err-write_letter g c =
+    let at = (goal.at.returns-in-Err-write_letter g c).After-write-letter in
     record {
-      written = c.in-Err-write-letter.ensures.written;
+      written = c.in-Err-write_letter.ensures.written;
       lawful = tt;
-      kept = λ room. false≢true (sym (ap is_ok c.in-Err-write-letter.is) ∙ enough g at room);
+      kept = λ room. false≢true (sym (ap is_ok c.in-Err-write_letter.is) ∙ enough g at room);
       room = c.in-Ok.ensures.room;
-      sure = λ k in_step roomy room. sym (ap is_ok c.in-Err-write-letter.is) ∙ enough g at room;
+      sure = λ k in_step roomy room. sym (ap is_ok c.in-Err-write_letter.is) ∙ enough g at room;
     }

@@ -6,7 +6,7 @@ use Rattle.rehearsal.proofs.answers.served.Goals as goal
 pub returns : goal.returns
 returns c =
     let s = state_of c.args.replica.now in
-    let fit = c.in-ok-slip.ensures in
-    let done = c.in-ok-after.ensures in
+    let fit = c.in_ok-slip.ensures in
+    let done = c.in_ok-after.ensures in
     let noted = done.1 ∙ ap (λ v. slip_after v s) fit.1 in
-    (fit.0, sym (ap (λ v. serves v s) fit.1) ∙ done.0, (c.in-ok-after.after, refl, noted))
+    (fit.0, sym (ap (λ v. serves v s) fit.1) ∙ done.0, (c.in_ok-after.after, refl, noted))

@@ -21,10 +21,10 @@ module _ (c : After-index-entry) where
   is : plain c.index-entry.result.now ≡ get_or (map plain (vec_items c.args.self.now.entries)) c.args.self.now.committed (plain c.index-entry.result.now)
   is = sym (entry_there (vec_items c.args.self.now.entries) c.args.self.now.committed c.index-entry.result.now (plain c.index-entry.result.now) (search rules) c.index-entry.ensures)
 
-pub invariant-of-self : goal.invariant-of-self
-invariant-of-self c =
+pub invariant_of-self : goal.invariant_of-self
+invariant_of-self c =
     let was = c.args.self.now in
-    let at = (goal.at.invariant-of-self c).After-index-entry in
+    let at = (goal.at.invariant_of-self c).After-index-entry in
     (search rules, (next_ascends _ was.committed (plain c.index-entry.result.now) (there at) (is at) was.sorted, (was.once, (was.room, tt))))
 
 pub returns : goal.returns

@@ -12,53 +12,53 @@ use Rattle.entry_log.proofs.Putting.{into-ascends, has-drop}
 use Rattle.entry_log.proofs.log.Log.insert.Goals as goal
 use Rattle.entry_log.proofs.log.Log.insert.Goals.{After-insert-at}
 
-pub insert-at-requires : goal.insert-at-requires
-insert-at-requires c =
+pub insert_at-requires : goal.insert_at-requires
+insert_at-requires c =
     let was = c.args.self.now in
     let whole = ap length (take-append-drop was.committed (map plain (vec_items was.entries))) ∙ length-map (vec_items was.entries) plain in
-    record { within = c.place-for-place.ensures.within; room = omega (arith, c.requires.room, was.entries.ok.0, was.room) }
+    record { within = c.place_for-place.ensures.within; room = omega (arith, c.requires.room, was.entries.ok.0, was.room) }
 
 -- the log's entries with one more
-after : (c : After-insert-at) → map plain (vec_items c.insert-at.new.entries) ≡ insert (map plain (vec_items c.args.self.now.entries)) c.place-for-place.result (plain c.args.entry)
-after c = ap (map plain) c.insert-at.ensures.items ∙ map-inserted plain (vec_items c.args.self.now.entries) c.place-for-place.result c.args.entry
+after : (c : After-insert-at) → map plain (vec_items c.insert_at.new.entries) ≡ insert (map plain (vec_items c.args.self.now.entries)) c.place_for-place.result (plain c.args.entry)
+after c = ap (map plain) c.insert_at.ensures.items ∙ map-inserted plain (vec_items c.args.self.now.entries) c.place_for-place.result c.args.entry
 
 module _ (c : After-insert-at) where
   within : c.args.self.now.committed ≤ length (map plain (vec_items c.args.self.now.entries))
   within = simp length-map (omega (arith, c.args.self.now.within, c.args.self.now.entries.ok.0))
 
-  fits : c.place-for-place.result ≤ length (map plain (vec_items c.args.self.now.entries))
-  fits = simp length-map (omega (arith, c.place-for-place.ensures.within, c.args.self.now.entries.ok.0))
+  fits : c.place_for-place.result ≤ length (map plain (vec_items c.args.self.now.entries))
+  fits = simp length-map (omega (arith, c.place_for-place.ensures.within, c.args.self.now.entries.ok.0))
 
   new : has (plain c.args.entry).mark (map plain (vec_items c.args.self.now.entries)) ≡ false
   new = ap (has (plain c.args.entry).mark) (sym (take-append-drop c.args.self.now.committed (map plain (vec_items c.args.self.now.entries)))) ∙ c.requires.new
 
-  first_part : take c.args.self.now.committed (map plain (vec_items c.insert-at.new.entries)) ≡ take c.args.self.now.committed (map plain (vec_items c.args.self.now.entries))
-  first_part = ap (take c.args.self.now.committed) (after c) ∙ inserted-committed _ _ _ _ within c.place-for-place.ensures.value fits
+  first_part : take c.args.self.now.committed (map plain (vec_items c.insert_at.new.entries)) ≡ take c.args.self.now.committed (map plain (vec_items c.args.self.now.entries))
+  first_part = ap (take c.args.self.now.committed) (after c) ∙ inserted-committed _ _ _ _ within c.place_for-place.ensures.value fits
 
   second_part :
-      drop c.args.self.now.committed (map plain (vec_items c.insert-at.new.entries))
+      drop c.args.self.now.committed (map plain (vec_items c.insert_at.new.entries))
       ≡ into (plain c.args.entry) (drop c.args.self.now.committed (map plain (vec_items c.args.self.now.entries)))
-  second_part = ap (drop c.args.self.now.committed) (after c) ∙ inserted-tentative _ _ _ _ within c.place-for-place.ensures.value fits
+  second_part = ap (drop c.args.self.now.committed) (after c) ∙ inserted-tentative _ _ _ _ within c.place_for-place.ensures.value fits
 
-  longer : vec_len c.insert-at.new.entries ≡ vec_len c.args.self.now.entries + 1
+  longer : vec_len c.insert_at.new.entries ≡ vec_len c.args.self.now.entries + 1
   longer =
-      c.insert-at.new.entries.ok.0 ∙ ap length c.insert-at.ensures.items
-      ∙ length-insert (vec_items c.args.self.now.entries) c.place-for-place.result c.args.entry (omega (arith, c.place-for-place.ensures.within, c.args.self.now.entries.ok.0))
+      c.insert_at.new.entries.ok.0 ∙ ap length c.insert_at.ensures.items
+      ∙ length-insert (vec_items c.args.self.now.entries) c.place_for-place.result c.args.entry (omega (arith, c.place_for-place.ensures.within, c.args.self.now.entries.ok.0))
       ∙ ap (λ n. n + 1) (sym c.args.self.now.entries.ok.0)
 
-pub invariant-of-self : goal.invariant-of-self
-invariant-of-self c =
+pub invariant_of-self : goal.invariant_of-self
+invariant_of-self c =
     let was = c.args.self.now in
     let whole = ap length (take-append-drop was.committed (map plain (vec_items was.entries))) ∙ length-map (vec_items was.entries) plain in
     let sorted = ap ascends (second_part c) ∙ into-ascends (plain c.args.entry) _ was.sorted (has-drop (plain c.args.entry).mark was.committed _ (new c)) in
-    let once = subst Once (sym (after c)) (inserted_once _ _ _ _ (within c) c.place-for-place.ensures.value (fits c) was.once (new c)) in
-    (omega (arith, longer c, was.within), (sorted, (once, ((omega (arith, longer c, c.requires.room, was.entries.ok.0), omega (arith, c.insert-at.ensures.capacity, was.room)), tt))))
+    let once = subst Once (sym (after c)) (inserted_once _ _ _ _ (within c) c.place_for-place.ensures.value (fits c) was.once (new c)) in
+    (omega (arith, longer c, was.within), (sorted, (once, ((omega (arith, longer c, c.requires.room, was.entries.ok.0), omega (arith, c.insert_at.ensures.capacity, was.room)), tt))))
 
 pub returns : goal.returns
 returns c =
     let there = (goal.at.returns c).After-insert-at in
     record {
-      log = ap (λ l. record { committed = l; tentative = drop c.args.self.now.committed (map plain (vec_items c.insert-at.new.entries)) }) (first_part there)
+      log = ap (λ l. record { committed = l; tentative = drop c.args.self.now.committed (map plain (vec_items c.insert_at.new.entries)) }) (first_part there)
           ∙ ap (λ l. record { committed = take c.args.self.now.committed (map plain (vec_items c.args.self.now.entries)); tentative = l }) (second_part there);
-      place = c.place-for-place.ensures.value ∙ ap (λ n. n + spot (plain c.args.entry).mark (log_in c.args.self.now).tentative) (sym (length-take-le c.args.self.now.committed _ (within there)));
+      place = c.place_for-place.ensures.value ∙ ap (λ n. n + spot (plain c.args.entry).mark (log_in c.args.self.now).tentative) (sym (length-take-le c.args.self.now.committed _ (within there)));
     }

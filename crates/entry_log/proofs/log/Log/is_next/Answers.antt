@@ -20,8 +20,8 @@ returns c =
     let was = c.args.self.now in
     let next = c.index.result.now in
     let there : was.committed < length (vec_items was.entries) = search rules in
-    let is-next = next_entry (map plain (vec_items was.entries)) was.committed (plain next) (simp length-map there) (sym (entry_there (vec_items was.entries) was.committed next (plain next) there c.index.ensures)) in
+    let is_next = next_entry (map plain (vec_items was.entries)) was.committed (plain next) (simp length-map there) (sym (entry_there (vec_items was.entries) was.committed next (plain next) there c.index.ensures)) in
     record {
-      sound = λ yes. is-next ∙ ap Some (c.is-same.ensures.sound yes);
-      complete = λ first. c.is-same.ensures.complete cc;
+      sound = λ yes. is_next ∙ ap Some (c.is_same.ensures.sound yes);
+      complete = λ first. c.is_same.ensures.complete cc;
     }

@@ -8,21 +8,21 @@ use Rattle.entry_log.proofs.Views.{end_is}
 use Rattle.entry_log.proofs.log.Log.place_for.Goals as goal
 use Rattle.entry_log.proofs.log.Log.place_for.Goals.{After-spot-of}
 
-pub spot-of-requires : goal.spot-of-requires
-spot-of-requires c = ap ascends (end_is c.as-slice.result.now (vec_items c.args.self.now.entries) c.args.self.now.committed c.as-slice.ensures.value) ∙ c.args.self.now.sorted
+pub spot_of-requires : goal.spot_of-requires
+spot_of-requires c = ap ascends (end_is c.as_slice.result.now (vec_items c.args.self.now.entries) c.args.self.now.committed c.as_slice.ensures.value) ∙ c.args.self.now.sorted
 
-found : (c : After-spot-of) → c.spot-of.result ≡ spot (plain_mark c.args.mark.now) (drop c.args.self.now.committed (map plain (vec_items c.args.self.now.entries)))
+found : (c : After-spot-of) → c.spot_of.result ≡ spot (plain_mark c.args.mark.now) (drop c.args.self.now.committed (map plain (vec_items c.args.self.now.entries)))
 found c =
-    c.spot-of.ensures ∙ ap (spot (plain_mark c.args.mark.now)) (end_is c.as-slice.result.now (vec_items c.args.self.now.entries) c.args.self.now.committed c.as-slice.ensures.value)
+    c.spot_of.ensures ∙ ap (spot (plain_mark c.args.mark.now)) (end_is c.as_slice.result.now (vec_items c.args.self.now.entries) c.args.self.now.committed c.as_slice.ensures.value)
 
-within : (c : After-spot-of) → c.args.self.now.committed + c.spot-of.result ≤ vec_len c.args.self.now.entries
+within : (c : After-spot-of) → c.args.self.now.committed + c.spot_of.result ≤ vec_len c.args.self.now.entries
 within c =
     let was = c.args.self.now in
     let long : length (drop was.committed (map plain (vec_items was.entries))) ≡ length (vec_items was.entries) - was.committed = simp (length-drop, length-map) (omega arith) in
     omega (arith, found c, spot_within (plain_mark c.args.mark.now) (drop was.committed (map plain (vec_items was.entries))), was.entries.ok.0, was.within)
 
-pub overflow-add-result : goal.overflow-add-result
-overflow-add-result c = let low = within c in search rules
+pub overflow_add-result : goal.overflow_add-result
+overflow_add-result c = let low = within c in search rules
 
 pub returns : goal.returns
 returns c = record { value = ap (λ n. c.args.self.now.committed + n) (found c); within = within c }

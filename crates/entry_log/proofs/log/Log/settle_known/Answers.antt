@@ -13,11 +13,11 @@ use Rattle.entry_log.proofs.log.Log.settle_known.Goals.{After-move-to}
 
 module _ (c : After-move-to) where
   -- the entries after the move
-  after : map plain (with_items c.args.self.now.entries c.move-to.new.entries).items ≡ moved_to (map plain (vec_items c.args.self.now.entries)) c.args.self.now.committed c.args.last (plain c.args.entry)
+  after : map plain (with_items c.args.self.now.entries c.move_to.new.entries).items ≡ moved_to (map plain (vec_items c.args.self.now.entries)) c.args.self.now.committed c.args.last (plain c.args.entry)
   after =
       let was = c.args.self.now in
-      let long : length c.move-to.new.entries ≡ was.entries.len = search rules in
-      ap (map plain) (with_items_is was.entries c.move-to.new.entries long ∙ c.move-to.ensures ∙ ap (λ l. moved_to l was.committed c.args.last c.args.entry) c.as-mut-slice.ensures.value)
+      let long : length c.move_to.new.entries ≡ was.entries.len = search rules in
+      ap (map plain) (with_items_is was.entries c.move_to.new.entries long ∙ c.move_to.ensures ∙ ap (λ l. moved_to l was.committed c.args.last c.args.entry) c.as_mut_slice.ensures.value)
       ∙ map_moved plain (vec_items was.entries) was.committed c.args.last c.args.entry
 
   within : c.args.self.now.committed ≤ length (map plain (vec_items c.args.self.now.entries))
@@ -27,21 +27,21 @@ module _ (c : After-move-to) where
   there = simp length-map (search rules)
 
   front :
-      take (c.args.self.now.committed + 1) (map plain (with_items c.args.self.now.entries c.move-to.new.entries).items)
+      take (c.args.self.now.committed + 1) (map plain (with_items c.args.self.now.entries c.move_to.new.entries).items)
       ≡ take c.args.self.now.committed (map plain (vec_items c.args.self.now.entries)) ++ plain c.args.entry ∷ []
   front = ap (take (c.args.self.now.committed + 1)) after ∙ moved_committed _ c.args.self.now.committed (plain c.args.entry) within c.args.last
 
   back :
-      drop (c.args.self.now.committed + 1) (map plain (with_items c.args.self.now.entries c.move-to.new.entries).items)
+      drop (c.args.self.now.committed + 1) (map plain (with_items c.args.self.now.entries c.move_to.new.entries).items)
       ≡ without (plain c.args.entry).mark (drop c.args.self.now.committed (map plain (vec_items c.args.self.now.entries)))
   back =
       ap (drop (c.args.self.now.committed + 1)) after
       ∙ moved_tentative _ c.args.self.now.committed (plain c.args.entry) within c.args.last c.requires.tentative there c.args.self.now.once c.requires.there
 
-pub invariant-of-self : goal.invariant-of-self
-invariant-of-self c =
+pub invariant_of-self : goal.invariant_of-self
+invariant_of-self c =
     let was = c.args.self.now in
-    let at = (goal.at.invariant-of-self c).After-move-to in (
+    let at = (goal.at.invariant_of-self c).After-move-to in (
       omega (arith, c.requires.tentative, c.requires.within),
       (
         ap ascends (back at) ∙ without-ascends (plain c.args.entry).mark _ was.sorted,
@@ -53,5 +53,5 @@ pub returns : goal.returns
 returns c =
     let was = c.args.self.now in
     let at = (goal.at.returns c).After-move-to in
-    ap (λ l. record { committed = l; tentative = drop (was.committed + 1) (map plain (with_items was.entries c.move-to.new.entries).items) }) (front at)
+    ap (λ l. record { committed = l; tentative = drop (was.committed + 1) (map plain (with_items was.entries c.move_to.new.entries).items) }) (front at)
     ∙ ap (λ l. record { committed = take was.committed (map plain (vec_items was.entries)) ++ plain c.args.entry ∷ []; tentative = l }) (back at)

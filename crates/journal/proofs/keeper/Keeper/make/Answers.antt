@@ -19,39 +19,39 @@ module _ (g : Over) (c : After-append-synced g) where
   abbrev made : PlainRecord
   made = Tentative (plain (record { mark = c.in-Ok.mark; kind = c.args.kind }))
 
-  next : Follows made was (state_of c.append-synced.new.self.replica)
-  next = made_follows (plain_kind c.args.kind) (plain_mark c.in-Ok.mark) was _ c.in-Ok.ensures.0 c.in-Ok.ensures.1 (ap state_of c.append-synced.ensures.replica ∙ c.in-Ok.ensures.2)
+  next : Follows made was (state_of c.append_synced.new.self.replica)
+  next = made_follows (plain_kind c.args.kind) (plain_mark c.in-Ok.mark) was _ c.in-Ok.ensures.0 c.in-Ok.ensures.1 (ap state_of c.append_synced.ensures.replica ∙ c.in-Ok.ensures.2)
 
   is_wrote : (k : Kept) → was ≡ state_in k → makes (plain_kind c.args.kind) k ≡ wrote made k
   is_wrote k same = makes_is was k same (plain_kind c.args.kind) (plain_mark c.in-Ok.mark) c.in-Ok.ensures.0 c.in-Ok.ensures.1
 
   -- it cannot fail where there is room
-  sure : (k : Kept) → Keeps (g.J.Journal.keeps c.args.self.now.journal) was k → most_bytes < g.J.Journal.room c.args.self.now.journal → is_ok c.append-synced.result ≡ true
+  sure : (k : Kept) → Keeps (g.J.Journal.keeps c.args.self.now.journal) was k → most_bytes < g.J.Journal.room c.args.self.now.journal → is_ok c.append_synced.result ≡ true
   sure k in_step roomy =
-      let few = record_fits _ (g.J.Journal.keeps c.args.self.now.journal) was _ k in_step made c.append-synced.ensures.fits next (log_few c.append-synced.new.self.replica.log) in
-      c.append-synced.ensures.sure (bytes_of (history_of k)) _ in_step.bytes (omega arith)
+      let few = record_fits _ (g.J.Journal.keeps c.args.self.now.journal) was _ k in_step made c.append_synced.ensures.fits next (log_few c.append_synced.new.self.replica.log) in
+      c.append_synced.ensures.sure (bytes_of (history_of k)) _ in_step.bytes (omega arith)
 
-pub returns-in-Ok-append-synced : goal.returns-in-Ok-append-synced
-returns-in-Ok-append-synced g c =
-    let at = (goal.at.returns-in-Ok-append-synced g c).After-append-synced in
+pub returns-in-Ok-append_synced : goal.returns-in-Ok-append_synced
+returns-in-Ok-append_synced g c =
+    let at = (goal.at.returns-in-Ok-append_synced g c).After-append-synced in
     record {
       answer = (c.in-Ok.ensures.0, c.in-Ok.ensures.1);
       kept = λ k in_step.
-          subst (λ (x : Kept). Keeps (g.J.Journal.keeps c.append-synced.new.self.journal) (state_of c.append-synced.new.self.replica) (synced x)) (sym (is_wrote g at k in_step.state))
-          (keeps_wrote-synced _ _ (was g at) _ k in_step (made g at) c.append-synced.ensures.fits (next g at)
-          (c.in-Ok-append-synced.ensures.keeps (bytes_of (history_of k)) _ refl in_step.bytes));
-      room = c.append-synced.ensures.room;
+          subst (λ (x : Kept). Keeps (g.J.Journal.keeps c.append_synced.new.self.journal) (state_of c.append_synced.new.self.replica) (synced x)) (sym (is_wrote g at k in_step.state))
+          (keeps_wrote-synced _ _ (was g at) _ k in_step (made g at) c.append_synced.ensures.fits (next g at)
+          (c.in-Ok-append_synced.ensures.keeps (bytes_of (history_of k)) _ refl in_step.bytes));
+      room = c.append_synced.ensures.room;
       sure = λ k in_step roomy. tt;
     }
 
-pub returns-in-Err-append-synced : goal.returns-in-Err-append-synced
-returns-in-Err-append-synced g c =
-    let at = (goal.at.returns-in-Err-append-synced g c).After-append-synced in
+pub returns-in-Err-append_synced : goal.returns-in-Err-append_synced
+returns-in-Err-append_synced g c =
+    let at = (goal.at.returns-in-Err-append_synced g c).After-append-synced in
     record {
-      answer = c.in-Err-append-synced.ensures.shut.0;
+      answer = c.in-Err-append_synced.ensures.shut.0;
       kept = λ k in_step.
-          c.append-synced.ensures.lasts _
+          c.append_synced.ensures.lasts _
           (durable_lasts _ (g.J.Journal.lasts c.args.self.now.journal) (was g at) k in_step (g.met.J.Journal.lasting c.args.self.now.journal));
-      room = c.append-synced.ensures.room;
-      sure = λ k in_step roomy. false≢true (sym (ap is_ok c.in-Err-append-synced.is) ∙ sure g at k in_step roomy);
+      room = c.append_synced.ensures.room;
+      sure = λ k in_step roomy. false≢true (sym (ap is_ok c.in-Err-append_synced.is) ∙ sure g at k in_step roomy);
     }

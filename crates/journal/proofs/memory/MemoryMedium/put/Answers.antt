@@ -6,6 +6,6 @@ pub returns : goal.returns
 returns c = record {
   holds = λ bs n t e. (search rules, e.1);
   lasts = λ bs e. (e.0, first_stays bs (vec_items c.args.self.now.held) c.args.more.now _ (search rules) (search rules) e.1);
-  room = c.extend-from-slice.ensures.capacity;
+  room = c.extend_from_slice.ensures.capacity;
   sure = λ bs n e h. refl;
 }

@@ -8,17 +8,17 @@ pub returns-in-Committed : goal.returns-in-Committed
 returns-in-Committed c = record {
   written =
       rw c.in-Committed.is
-      (written_then c.args.out.now c.put.new.out c.write-entry.new.out (1 ∷ []) (encode (plain c.in-Committed.entry)) c.put.ensures
-      c.write-entry.ensures.written);
-  fits = rw c.in-Committed.is c.write-entry.ensures.fits;
+      (written_then c.args.out.now c.put.new.out c.write_entry.new.out (1 ∷ []) (encode (plain c.in-Committed.entry)) c.put.ensures
+      c.write_entry.ensures.written);
+  fits = rw c.in-Committed.is c.write_entry.ensures.fits;
 }
 
 pub returns-in-Tentative : goal.returns-in-Tentative
 returns-in-Tentative c = record {
   written =
       rw c.in-Tentative.is
-      (written_then c.args.out.now c.put-in-Tentative.new.out c.write-entry-in-Tentative.new.out (2 ∷ []) (encode (plain c.in-Tentative.entry))
+      (written_then c.args.out.now c.put-in-Tentative.new.out c.write_entry-in-Tentative.new.out (2 ∷ []) (encode (plain c.in-Tentative.entry))
       c.put-in-Tentative.ensures
-      c.write-entry-in-Tentative.ensures.written);
-  fits = rw c.in-Tentative.is c.write-entry-in-Tentative.ensures.fits;
+      c.write_entry-in-Tentative.ensures.written);
+  fits = rw c.in-Tentative.is c.write_entry-in-Tentative.ensures.fits;
 }

@@ -10,14 +10,14 @@ returns-then-out-gt0 c =
     looked_stopped c.args.reader.rest.now c.two.new.self.rest.now c.four.new.self.rest.now c.new-first.result.rest.now
     c.in-Ok.committed
     c.in-Ok-four.place
-    c.in-ok-out.out
+    c.in_ok-out.out
     (c.in-Ok-four.place + 0)
     (c.in-Ok.committed - 0)
     _
     c.in-Ok.ensures
     c.in-Ok-four.ensures
     c.if-committed-gt-LETTER.false
-    c.in-ok-out.ensures
+    c.in_ok-out.ensures
     c.if-out-gt0.true
     (c.new-first.ensures ∙ c.rest.ensures)
     (omega arith)
@@ -29,16 +29,16 @@ returns c =
     looked_through c.args.reader.rest.now c.two.new.self.rest.now c.four.new.self.rest.now c.new-first.result.rest.now
     c.in-Ok.committed
     c.in-Ok-four.place
-    c.in-ok-out.out
+    c.in_ok-out.out
     (c.in-Ok-four.place + 0)
     (c.in-Ok.committed - 0)
-    c.pass-entries.new.self.rest.now
+    c.pass_entries.new.self.rest.now
     c.in-Ok.ensures
     c.in-Ok-four.ensures
     c.if-committed-gt-LETTER.false
-    c.in-ok-out.ensures
+    c.in_ok-out.ensures
     c.if-out-gt0.false
     (c.new-first.ensures ∙ c.rest.ensures)
     (omega arith)
     (omega arith) in
-    subst (λ (h : Heard). MatchResult c.look-on.result (λ l. h ≡ heard_of l) (λ e. (number_of e ≡ 1) × (h ≡ damaged))) (sym e) c.look-on.ensures
+    subst (λ (h : Heard). MatchResult c.look_on.result (λ l. h ≡ heard_of l) (λ e. (number_of e ≡ 1) × (h ≡ damaged))) (sym e) c.look_on.ensures

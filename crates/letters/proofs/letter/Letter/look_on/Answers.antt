@@ -9,8 +9,8 @@ use Rattle.letters.proofs.letter.Letter.look_on.Goals as goal
 pub returns : goal.returns
 returns c =
     let l = c.args.self in
-    let t = c.pass-waiting.new.self.rest.now in
-    let out = c.in-ok-out.out in
+    let t = c.pass_waiting.new.self.rest.now in
+    let out = c.in_ok-out.out in
     let behind : eqb out 0 ≡ true → length t ≡ 0 =
     elim c.else-out-eq0.branch [
       | else-out-eq0-via-then-out-eq0+else-rest-gt0 w ↦ λ e. search rules
@@ -22,6 +22,6 @@ returns c =
     (front reads (l.committed - l.given) l.first.rest.now)
     c.in-Ok.ensures
     c.if-self-tentative.false
-    c.in-ok-out.ensures
+    c.in_ok-out.ensures
     (c.new-second.ensures ∙ c.rest.ensures)
     behind

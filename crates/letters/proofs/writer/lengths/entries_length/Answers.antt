@@ -6,11 +6,11 @@ use Rattle.letters.proofs.writer.lengths.entries_length.Goals as goal
 
 pub loop-entry-preserved : goal.loop-entry-preserved
 loop-entry-preserved c =
-    sums_more encode plain c.args.entries.now c.loop-entry.sum c.loop-entry.entry-index c.entry-length-sum.result c.entry-item.result c.loop-entry-test.true
+    sums_more encode plain c.args.entries.now c.loop-entry.sum c.loop-entry.entry-index c.entry_length-sum.result c.entry-item.result c.loop-entry-test.true
     c.entry-item.is
     c.loop-entry.invariant
-    c.entry-length-sum.ensures.value
-    (omega (arith, c.entry-length-sum.ensures.small))
+    c.entry_length-sum.ensures.value
+    (omega (arith, c.entry_length-sum.ensures.small))
 
 pub returns : goal.returns
 returns c =

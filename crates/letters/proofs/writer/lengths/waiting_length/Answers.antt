@@ -12,11 +12,11 @@ loop-waiting-preserved c =
     let w = c.waiting-item.result in
     let long = length-append (encode (plain w.entry)) (flat_map four w.stood.stamps) in
     let stamps = length_stamps w.stood.stamps in
-    sums_more encode_waiting plain_waiting c.args.list.now c.loop-waiting.sum c.loop-waiting.waiting-index (c.entry-length.result + 64) c.waiting-item.result c.loop-waiting-test.true
+    sums_more encode_waiting plain_waiting c.args.list.now c.loop-waiting.sum c.loop-waiting.waiting-index (c.entry_length.result + 64) c.waiting-item.result c.loop-waiting-test.true
     c.waiting-item.is
     c.loop-waiting.invariant
-    (omega (arith, c.entry-length.ensures.value, long, stamps, w.stood.sixteen))
-    (omega (arith, c.entry-length.ensures.small))
+    (omega (arith, c.entry_length.ensures.value, long, stamps, w.stood.sixteen))
+    (omega (arith, c.entry_length.ensures.small))
 
 pub returns : goal.returns
 returns c =

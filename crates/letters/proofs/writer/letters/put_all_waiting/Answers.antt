@@ -7,8 +7,8 @@ use Rattle.letters.proofs.writer.letters.put_all_waiting.Goals as goal
 pub loop-waiting-init : goal.loop-waiting-init
 loop-waiting-init c = (written_none c.args.out.now, tt)
 
-pub put-waiting-requires : goal.put-waiting-requires
-put-waiting-requires c =
+pub put_waiting-requires : goal.put_waiting-requires
+put_waiting-requires c =
     room_next encode_waiting plain_waiting c.args.out.now c.args.list.now c.loop-waiting.out c.loop-waiting.waiting-index c.waiting-item.result c.waiting-item.result c.loop-waiting-test.true
     c.waiting-item.is
     c.requires
@@ -16,13 +16,13 @@ put-waiting-requires c =
 
 pub loop-waiting-preserved : goal.loop-waiting-preserved
 loop-waiting-preserved c = (
-  writes_more encode_waiting plain_waiting c.args.out.now c.args.list.now c.loop-waiting.out c.put-waiting.new.out c.loop-waiting.waiting-index c.waiting-item.result c.waiting-item.result
+  writes_more encode_waiting plain_waiting c.args.out.now c.args.list.now c.loop-waiting.out c.put_waiting.new.out c.loop-waiting.waiting-index c.waiting-item.result c.waiting-item.result
       c.loop-waiting-test.true
       c.waiting-item.is
       c.loop-waiting.invariant.0
-      c.put-waiting.ensures.written,
+      c.put_waiting.ensures.written,
   holds_more WaitingOk plain_waiting c.args.list.now c.loop-waiting.waiting-index c.waiting-item.result c.waiting-item.result c.loop-waiting-test.true c.waiting-item.is c.loop-waiting.invariant.1
-      c.put-waiting.ensures.fits,
+      c.put_waiting.ensures.fits,
 )
 
 pub returns : goal.returns

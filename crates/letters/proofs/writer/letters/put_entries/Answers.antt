@@ -7,8 +7,8 @@ use Rattle.letters.proofs.writer.letters.put_entries.Goals as goal
 pub loop-entry-init : goal.loop-entry-init
 loop-entry-init c = (written_none c.args.out.now, tt)
 
-pub write-entry-requires : goal.write-entry-requires
-write-entry-requires c =
+pub write_entry-requires : goal.write_entry-requires
+write_entry-requires c =
     room_next encode plain c.args.out.now c.args.entries.now c.loop-entry.out c.loop-entry.entry-index c.entry-item.result c.entry-item.result c.loop-entry-test.true
     c.entry-item.is
     c.requires
@@ -16,13 +16,13 @@ write-entry-requires c =
 
 pub loop-entry-preserved : goal.loop-entry-preserved
 loop-entry-preserved c = (
-  writes_more encode plain c.args.out.now c.args.entries.now c.loop-entry.out c.write-entry.new.out c.loop-entry.entry-index c.entry-item.result c.entry-item.result
+  writes_more encode plain c.args.out.now c.args.entries.now c.loop-entry.out c.write_entry.new.out c.loop-entry.entry-index c.entry-item.result c.entry-item.result
       c.loop-entry-test.true
       c.entry-item.is
       c.loop-entry.invariant.0
-      c.write-entry.ensures.written,
+      c.write_entry.ensures.written,
   holds_more EntryOk plain c.args.entries.now c.loop-entry.entry-index c.entry-item.result c.entry-item.result c.loop-entry-test.true c.entry-item.is c.loop-entry.invariant.1
-      c.write-entry.ensures.fits,
+      c.write_entry.ensures.fits,
 )
 
 pub returns : goal.returns

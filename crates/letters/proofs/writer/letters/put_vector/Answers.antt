@@ -13,7 +13,7 @@ put-requires c =
     let stamp = get_or c.stamps-stamp-items.result i 0 in
     let within : i < length all = omega (arith, c.loop-stamp-test.true, c.args.vector.now.sixteen) in
     let is : stamp ≡ get_or all i 0 = ap (λ xs. get_or xs i 0) c.stamps-stamp-items.ensures in
-    subst (Room c.loop-stamp.out) (sym c.to-be-bytes.ensures)
+    subst (Room c.loop-stamp.out) (sym c.to_be_bytes.ensures)
     (room_next four (λ n. n) c.args.out.now all c.loop-stamp.out i 0 stamp within is
     (subst (λ (xs : List ℕ). Room c.args.out.now (flat_map four xs)) (sym (map-id all)) c.requires)
     c.loop-stamp.invariant.0)
@@ -26,7 +26,7 @@ loop-stamp-preserved c =
     let within : i < length all = omega (arith, c.loop-stamp-test.true, c.args.vector.now.sixteen) in
     let is : stamp ≡ get_or all i 0 = ap (λ xs. get_or xs i 0) c.stamps-stamp-items.ensures in (
       writes_more four (λ n. n) c.args.out.now all c.loop-stamp.out c.put.new.out i 0 stamp within is c.loop-stamp.invariant.0
-          (written_as c.loop-stamp.out c.put.new.out _ (four stamp) c.to-be-bytes.ensures c.put.ensures),
+          (written_as c.loop-stamp.out c.put.new.out _ (four stamp) c.to_be_bytes.ensures c.put.ensures),
       holds_more (λ n. n < 2 ^ 32) (λ n. n) all i 0 stamp within is c.loop-stamp.invariant.1 c.loop-stamp-test.element-fits.fits,
     )
 

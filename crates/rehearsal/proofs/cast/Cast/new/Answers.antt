@@ -9,7 +9,7 @@ use Rattle.rehearsal.proofs.cast.Cast.new.Goals as goal
 pub returns-in-Err : goal.returns-in-Err
 returns-in-Err c =
     still_unmade c.in-Err.why _ _
-    (λ fine. can_join c.args.huts.now c.loop-hut.hut-index _ fine c.loop-hut-test.true (ap (map state_of) c.as-slice.ensures.value ∙ c.loop-hut.invariant.0))
+    (λ fine. can_join c.args.huts.now c.loop-hut.hut-index _ fine c.loop-hut-test.true (ap (map state_of) c.as_slice.ensures.value ∙ c.loop-hut.invariant.0))
     c.in-Err.ensures
 
 pub loop-hut-preserved : goal.loop-hut-preserved
@@ -18,11 +18,11 @@ loop-hut-preserved c =
     let n = c.loop-hut.hut-index in
     let inv = c.loop-hut.invariant in
     let joined = c.in-Ok-join.ensures in (
-      joined_states hs n (vec_items c.loop-hut.replicas) _ c.in-Ok-join.replica c.loop-hut-test.true inv.0 c.push-reserved.ensures.items joined.2,
-      omega (arith, c.push-reserved.ensures.len, inv.1),
-      omega (arith, c.push-reserved.ensures.capacity, inv.2),
+      joined_states hs n (vec_items c.loop-hut.replicas) _ c.in-Ok-join.replica c.loop-hut-test.true inv.0 c.push_reserved.ensures.items joined.2,
+      omega (arith, c.push_reserved.ensures.len, inv.1),
+      omega (arith, c.push_reserved.ensures.capacity, inv.2),
       below_more _ _ inv.3 joined.0,
-      joined_differs hs n _ c.loop-hut-test.true (ap (map state_of) c.as-slice.ensures.value ∙ inv.0) joined.1 inv.4,
+      joined_differs hs n _ c.loop-hut-test.true (ap (map state_of) c.as_slice.ensures.value ∙ inv.0) joined.1 inv.4,
     )
 
 pub returns : goal.returns

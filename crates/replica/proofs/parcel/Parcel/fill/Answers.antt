@@ -5,9 +5,9 @@ use Rattle.bookings.specs.Plain.{plain}
 use Rattle.replica.specs.Parcels.{missing, parcel_of}
 use Rattle.replica.proofs.parcel.Parcel.fill.Goals as goal
 
-pub overflow-sub-room : goal.overflow-sub-room
-overflow-sub-room c =
-    omega (arith, c.len-room.ensures, c.gather-committed.new.out.ok.0, ap length c.gather-committed.ensures.items, length-take 1024 (drop c.args.from c.args.committed.now))
+pub overflow_sub-room : goal.overflow_sub-room
+overflow_sub-room c =
+    omega (arith, c.len-room.ensures, c.gather_committed.new.out.ok.0, ap length c.gather_committed.ensures.items, length-take 1024 (drop c.args.from c.args.committed.now))
 
 pub returns : goal.returns
 unfolding parcel_of
@@ -15,8 +15,8 @@ returns c =
     let cs = map plain c.args.committed.now in
     let front : map plain (take 1024 (drop c.args.from c.args.committed.now)) ≡ take 1024 (drop c.args.from cs) =
     sym (take-map plain 1024 (drop c.args.from c.args.committed.now)) ∙ ap (take 1024) (sym (drop-map plain c.args.from c.args.committed.now)) in
-    let settled = ap (map plain) c.gather-committed.ensures.items ∙ front in
+    let settled = ap (map plain) c.gather_committed.ensures.items ∙ front in
     let count : c.len-room.result ≡ length (take 1024 (drop c.args.from cs)) =
-    c.len-room.ensures ∙ c.gather-committed.new.out.ok.0 ∙ ap length c.gather-committed.ensures.items ∙ sym (length-map (take 1024 (drop c.args.from c.args.committed.now)) plain) ∙ ap length front in
-    let rest = c.gather-tentative.ensures.items ∙ ap (λ n. take (1024 - n) (missing c.args.has.now.stamps cs (map plain c.args.tentative.now))) count in
+    c.len-room.ensures ∙ c.gather_committed.new.out.ok.0 ∙ ap length c.gather_committed.ensures.items ∙ sym (length-map (take 1024 (drop c.args.from c.args.committed.now)) plain) ∙ ap length front in
+    let rest = c.gather_tentative.ensures.items ∙ ap (λ n. take (1024 - n) (missing c.args.has.now.stamps cs (map plain c.args.tentative.now))) count in
     rw (settled, rest) refl

@@ -9,10 +9,10 @@ returns c =
     let part = take ((start + c.min.result) - start) (drop start c.args.entries.now) in
     let short = length-take ((start + c.min.result) - start) (drop start c.args.entries.now) in
     let none = c.args.out.now.ok.0 ∙ ap length c.requires.empty in
-    let fits : is_ok c.extend-from-slice.result ≡ true = c.extend-from-slice.ensures.succeeds (omega (arith, c.min.ensures, c.requires.room)) in
+    let fits : is_ok c.extend_from_slice.result ≡ true = c.extend_from_slice.ensures.succeeds (omega (arith, c.min.ensures, c.requires.room)) in
     record {
       items =
-          c.extend-from-slice.ensures.items ∙ cond-true (is_ok c.extend-from-slice.result) _ _ fits ∙ ap (λ l. l ++ part) c.requires.empty
+          c.extend_from_slice.ensures.items ∙ cond-true (is_ok c.extend_from_slice.result) _ _ fits ∙ ap (λ l. l ++ part) c.requires.empty
           ∙ part_is c.args.entries.now c.args.from start c.min.result c.min-start.ensures c.min.ensures;
-      capacity = c.extend-from-slice.ensures.capacity;
+      capacity = c.extend_from_slice.ensures.capacity;
     }

@@ -17,7 +17,7 @@ loop-entry-init c =
       ap (λ ws. ws ++ take (c.args.room - length ws) (missing c.args.has.now.stamps (before ++ []) (map plain c.args.entries.now))) none
           ∙ ap (λ n. take n (missing c.args.has.now.stamps (before ++ []) (map plain c.args.entries.now))) (omega arith)
           ∙ ap (λ l. take c.args.room (missing c.args.has.now.stamps l (map plain c.args.entries.now))) (append-nil before),
-      c.vector-of-stood.ensures ∙ ap vector_of (sym (append-nil before)),
+      c.vector_of-stood.ensures ∙ ap vector_of (sym (append-nil before)),
       refl,
     )
 

@@ -15,7 +15,7 @@ returns c =
     let some : length (map plain_waiting (vec_items c.args.out.now)) < c.args.room = simp length-map (search rules) in
     record {
       items =
-          ap (map plain_waiting) c.push-reserved.ensures.items ∙ map_push plain_waiting (vec_items c.args.out.now) (record { entry = c.args.entry.now; stood = c.args.stood })
+          ap (map plain_waiting) c.push_reserved.ensures.items ∙ map_push plain_waiting (vec_items c.args.out.now) (record { entry = c.args.entry.now; stood = c.args.stood })
           ∙ rw (lt-leb c.args.room (length (map plain_waiting (vec_items c.args.out.now))) some, ← c.if-reaches.ensures) refl;
-      capacity = c.push-reserved.ensures.capacity;
+      capacity = c.push_reserved.ensures.capacity;
     }

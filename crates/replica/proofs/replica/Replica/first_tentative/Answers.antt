@@ -13,8 +13,8 @@ is_first : (es : List Entry) (e : Entry) → 0 < length es → e ≡ get_or es 0
 is_first [] e h is = absurd (omega arith)
 is_first (x ∷ es) e h is = ap (λ y. Some (plain y)) is
 
-pub returns-then-is-empty : goal.returns-then-is-empty
-returns-then-is-empty c = no_first c.tentative-part-tentative.result.now (eqb-true _ 0 (sym c.if-is-empty.ensures)) ∙ ap first_entry c.tentative-part-tentative.ensures
+pub returns-then-is_empty : goal.returns-then-is_empty
+returns-then-is_empty c = no_first c.tentative_part-tentative.result.now (eqb-true _ 0 (sym c.if-is_empty.ensures)) ∙ ap first_entry c.tentative_part-tentative.ensures
 
 pub returns : goal.returns
-returns c = is_first c.tentative-part-tentative.result.now c.index-tentative-0.result (omega (arith, eqb-false (length c.tentative-part-tentative.result.now) 0 (sym c.if-is-empty.ensures))) c.index-tentative-0.is ∙ ap first_entry c.tentative-part-tentative.ensures
+returns c = is_first c.tentative_part-tentative.result.now c.index-tentative-0.result (omega (arith, eqb-false (length c.tentative_part-tentative.result.now) 0 (sym c.if-is_empty.ensures))) c.index-tentative-0.is ∙ ap first_entry c.tentative_part-tentative.ensures

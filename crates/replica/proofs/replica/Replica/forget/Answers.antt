@@ -9,21 +9,21 @@ use Rattle.entry_log.proofs.Stamps.{vector_none}
 use Rattle.replica.proofs.Taking.{shares_front}
 use Rattle.replica.proofs.replica.Replica.forget.Goals as goal
 
-pub redo-log-requires : goal.redo-log-requires
-redo-log-requires c =
+pub redo_log-requires : goal.redo_log-requires
+redo_log-requires c =
     let was = c.args.self.now in
-    let none = c.as-slice.ensures ∙ ap all_of c.clear.ensures in
-    let size = length-map c.as-slice.result.now plain in
+    let none = c.as_slice.ensures ∙ ap all_of c.clear.ensures in
+    let size = length-map c.as_slice.result.now plain in
     record {
       within = omega arith;
       room = omega (arith, size, ap length none);
       front =
-          shares_front was.log (book_in was.book) {place = 0} {at = 0} {es = map plain c.as-slice.result.now} {fs = map plain c.as-slice.result.now} was.in_step refl refl refl;
+          shares_front was.log (book_in was.book) {place = 0} {at = 0} {es = map plain c.as_slice.result.now} {fs = map plain c.as_slice.result.now} was.in_step refl refl refl;
     }
 
-pub invariant-of-self-2 : goal.invariant-of-self-2
-invariant-of-self-2 c =
+pub invariant_of-self-2 : goal.invariant_of-self-2
+invariant_of-self-2 c =
     let none = ap all_of c.clear.ensures in (
       (sym (ap length none), sym (ap top none), c.zero.ensures ∙ vector_none ∙ sym (ap vector_of none)),
-      (∣ c.redo-log.ensures ∙ ap book_of c.as-slice.ensures ∣₁, tt),
+      (∣ c.redo_log.ensures ∙ ap book_of c.as_slice.ensures ∣₁, tt),
     )

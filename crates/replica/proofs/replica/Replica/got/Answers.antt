@@ -10,17 +10,17 @@ use Rattle.entry_log.specs.Views.{log_in}
 use Rattle.replica.proofs.Stepped.{step_is, step_marks}
 use Rattle.replica.proofs.replica.Replica.got.Goals as goal
 
-pub returns-in-default : goal.returns-in-default
-returns-in-default c =
+pub returns-in_default : goal.returns-in_default
+returns-in_default c =
     let marks = step_marks (book_in c.args.self.now.book) (all_of (log_in c.args.self.now.log)) c.args.self.now.in_step in
-    (refl, sym (c.in-default.ensures ∙ ap (place_from 0 (plain_mark c.args.mark.now)) marks))
+    (refl, sym (c.in_default.ensures ∙ ap (place_from 0 (plain_mark c.args.mark.now)) marks))
 
 -- a mark that is found has an outcome
-pub returns-in-default-outcome : goal.returns-in-default-outcome
-returns-in-default-outcome c =
+pub returns-in_default-outcome : goal.returns-in_default-outcome
+returns-in_default-outcome c =
     let book = book_in c.args.self.now.book in
     let found = place_is (plain_mark c.args.mark.now) 0 c.in-Some.place book.marks (sym c.in-Some.ensures) in
-    absurd (omega (arith, found.0, c.in-default-outcome.ensures, (reached_sound book c.args.self.now.book.reached).1))
+    absurd (omega (arith, found.0, c.in_default-outcome.ensures, (reached_sound book c.args.self.now.book.reached).1))
 
 pub returns : goal.returns
 returns c =

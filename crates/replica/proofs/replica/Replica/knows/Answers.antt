@@ -6,4 +6,4 @@ use Rattle.entry_log.specs.Views.{log_in}
 use Rattle.replica.proofs.replica.Replica.knows.Goals as goal
 
 pub returns : goal.returns
-returns c = c.is-some.ensures ∙ ap is_some c.find.ensures ∙ has_found (plain_mark c.args.mark.now) 0 (all_of (log_in c.args.self.now.log))
+returns c = c.is_some.ensures ∙ ap is_some c.find.ensures ∙ has_found (plain_mark c.args.mark.now) 0 (all_of (log_in c.args.self.now.log))

@@ -29,8 +29,8 @@ insert-requires c =
 last : (c : After-with-self) → all_of (log_in c.insert.new.self) ≡ all_of (log_in c.args.self.now.log) ++ plain (record { mark = c.in-Ok.mark; kind = c.args.kind }) ∷ []
 last c = ap all_of c.insert.ensures.log ∙ made_last _ (log_in c.args.self.now.log) (above (goal.at.After-with-self c).In-Ok)
 
-pub invariant-of-self : goal.invariant-of-self
-invariant-of-self c =
+pub invariant_of-self : goal.invariant_of-self
+invariant_of-self c =
     let es = all_of (log_in c.args.self.now.log) in
     let e = plain (record { mark = c.in-Ok.mark; kind = c.args.kind }) in
     let head = c.args.self.now.headed in (
@@ -40,7 +40,7 @@ invariant-of-self c =
         c.with-self.ensures.seen ∙ ap (noted e.mark) head.2 ∙ sym (ap vector_of (last c) ∙ vector_push es e c.in-Ok.mark.hut_ok),
       ),
       (
-        step_push c.apply.result (book_in c.args.self.now.book) (book_in c.apply.new.self) e es _ c.apply.ensures c.args.self.now.in_step (room (goal.at.invariant-of-self c).In-Ok) (last c),
+        step_push c.apply.result (book_in c.args.self.now.book) (book_in c.apply.new.self) e es _ c.apply.ensures c.args.self.now.in_step (room (goal.at.invariant_of-self c).In-Ok) (last c),
         tt,
       ),
     )

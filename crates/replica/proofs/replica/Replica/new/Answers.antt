@@ -5,8 +5,8 @@ use Rattle.entry_log.specs.Logs.{all_of, top}
 use Rattle.entry_log.specs.Vectors.{vector_of}
 use Rattle.replica.proofs.replica.Replica.new.Goals as goal
 
-pub invariant-of-result : goal.invariant-of-result
-invariant-of-result c =
+pub invariant_of-result : goal.invariant_of-result
+invariant_of-result c =
     let none = ap all_of c.in-Ok-new.ensures in
     let head = c.in-Ok.ensures in (
       (head.1 ∙ sym (ap length none), head.2 ∙ sym (ap top none), head.3 ∙ vector_none ∙ sym (ap vector_of none)),

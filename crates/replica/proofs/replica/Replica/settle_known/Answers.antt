@@ -10,23 +10,23 @@ use Rattle.replica.proofs.Committing.{committed_front, known_length, known_top, 
 use Rattle.replica.proofs.Taking.{shares_front, log_once, log_few}
 use Rattle.replica.proofs.replica.Replica.settle_known.Goals as goal
 
-pub redo-log-requires : goal.redo-log-requires
-redo-log-requires c =
+pub redo_log-requires : goal.redo_log-requires
+redo_log-requires c =
     let was = c.args.self.now in
     let l = log_in was.log in
     let e = plain c.args.entry in
     let after = ap all_of c.settle.ensures in
     let long = known_length e l c.requires.known (log_once was.log) in
-    let count = ap length (c.as-slice.ensures ∙ after) in
-    let shown = length-map c.as-slice.result.now plain in
+    let count = ap length (c.as_slice.ensures ∙ after) in
+    let shown = length-map c.as_slice.result.now plain in
     record {
       within = omega (arith, c.committed-place.ensures, length-append l.committed l.tentative);
       room = omega (arith, log_few was.log);
-      front = shares_front was.log (book_in was.book) was.in_step c.committed-place.ensures (c.as-slice.ensures ∙ after) (committed_front e l);
+      front = shares_front was.log (book_in was.book) was.in_step c.committed-place.ensures (c.as_slice.ensures ∙ after) (committed_front e l);
     }
 
-pub invariant-of-self-2 : goal.invariant-of-self-2
-invariant-of-self-2 c =
+pub invariant_of-self-2 : goal.invariant_of-self-2
+invariant_of-self-2 c =
     let was = c.args.self.now in
     let l = log_in was.log in
     let e = plain c.args.entry in
@@ -36,5 +36,5 @@ invariant-of-self-2 c =
         was.headed.1 ∙ sym (ap top after ∙ known_top e l c.requires.known),
         was.headed.2 ∙ sym (ap vector_of after ∙ known_vector e l c.requires.known),
       ),
-      (∣ c.redo-log.ensures ∙ ap book_of c.as-slice.ensures ∣₁, tt),
+      (∣ c.redo_log.ensures ∙ ap book_of c.as_slice.ensures ∣₁, tt),
     )

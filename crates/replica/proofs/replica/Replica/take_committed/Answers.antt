@@ -10,16 +10,16 @@ use Rattle.replica.proofs.replica.Replica.take_committed.Goals.{Then-knows, Else
 tentative : (c : Then-knows) → has (plain_mark c.args.entry.mark) (log_in c.args.self.now.log).tentative ≡ true
 tentative c =
     let l = log_in c.args.self.now.log in
-    has_second (plain_mark c.args.entry.mark) l.committed l.tentative (sym c.if-knows.ensures) (sym c.if-has-committed.ensures)
+    has_second (plain_mark c.args.entry.mark) l.committed l.tentative (sym c.if-knows.ensures) (sym c.if-has_committed.ensures)
 
-pub settle-known-requires : goal.settle-known-requires
-settle-known-requires c = record { new = sym c.if-has-committed.ensures; known = tentative (goal.at.settle-known-requires c).Then-knows }
+pub settle_known-requires : goal.settle_known-requires
+settle_known-requires c = record { new = sym c.if-has_committed.ensures; known = tentative (goal.at.settle_known-requires c).Then-knows }
 
 pub returns-then-knows : goal.returns-then-knows
 returns-then-knows c = let there = tentative (goal.at.returns-then-knows c).Then-knows in search rules
 
-pub returns-then-has-no-room : goal.returns-then-has-no-room
-returns-then-has-no-room c =
+pub returns-then-has_no_room : goal.returns-then-has_no_room
+returns-then-has_no_room c =
     let l = log_in c.args.self.now.log in
     let new = (has_parts (plain_mark c.args.entry.mark) l.committed l.tentative (sym c.if-knows.ensures)).1 in
     search rules

@@ -14,35 +14,35 @@ use Rattle.replica.proofs.replica.Replica.take_tentative.Goals.{After-insert-pla
 module _ (c : After-insert-place) where
   room : length (all_of (log_in c.args.self.now.log)) < 65536
   room =
-      omega (arith, leb-false 65536 _ (or_parts (leb 65536 (length (all_of (log_in c.args.self.now.log)))) (leb 4294967295 c.args.entry.mark.stamp) (sym c.if-has-no-room.ensures)).0)
+      omega (arith, leb-false 65536 _ (or_parts (leb 65536 (length (all_of (log_in c.args.self.now.log)))) (leb 4294967295 c.args.entry.mark.stamp) (sym c.if-has_no_room.ensures)).0)
 
   after : all_of (log_in c.insert-place.new.self) ≡ all_of (add_tentative (plain c.args.entry) (log_in c.args.self.now.log))
   after = ap all_of c.insert-place.ensures.log
 
-pub redo-log-requires : goal.redo-log-requires
-redo-log-requires c =
+pub redo_log-requires : goal.redo_log-requires
+redo_log-requires c =
     let was = c.args.self.now in
     let l = log_in was.log in
     let e = plain c.args.entry in
-    let at = (goal.at.redo-log-requires c).After-insert-place in
-    let long = ap length (c.as-slice.ensures ∙ after at) ∙ tentative-length e l in
-    let count = length-map c.as-slice.result.now plain in
+    let at = (goal.at.redo_log-requires c).After-insert-place in
+    let long = ap length (c.as_slice.ensures ∙ after at) ∙ tentative-length e l in
+    let count = length-map c.as_slice.result.now plain in
     record {
       within = omega (arith, place_within e l, c.insert-place.ensures.place);
       room = omega (arith, room at);
-      front = shares_front was.log (book_in was.book) was.in_step c.insert-place.ensures.place (c.as-slice.ensures ∙ after at) (front_same e l);
+      front = shares_front was.log (book_in was.book) was.in_step c.insert-place.ensures.place (c.as_slice.ensures ∙ after at) (front_same e l);
     }
 
-pub invariant-of-self : goal.invariant-of-self
-invariant-of-self c =
+pub invariant_of-self : goal.invariant_of-self
+invariant_of-self c =
     let was = c.args.self.now in
     let l = log_in was.log in
     let e = plain c.args.entry in
-    let at = (goal.at.invariant-of-self c).After-insert-place in (
+    let at = (goal.at.invariant_of-self c).After-insert-place in (
       (
         c.with-self.ensures.entries ∙ ap (λ n. n + 1) was.headed.0 ∙ sym (ap length (after at) ∙ tentative-length e l),
         omega (arith, c.with-self.ensures.top, was.headed.1, ap top (after at), tentative-top e l),
         c.with-self.ensures.seen ∙ ap (noted e.mark) was.headed.2 ∙ sym (ap vector_of (after at) ∙ tentative_vector e l c.args.entry.mark.hut_ok),
       ),
-      (∣ c.redo-log.ensures ∙ ap book_of c.as-slice.ensures ∣₁, tt),
+      (∣ c.redo_log.ensures ∙ ap book_of c.as_slice.ensures ∣₁, tt),
     )

@@ -17,10 +17,10 @@ module _ (c : After-restart) where
   is : c.bytes-found.result.now ≡ left_by c.args.kept c.args.self.now.journal.medium
   is = c.bytes-found.ensures ∙ c.crash.ensures.held
 
-  replayed : Replayed c.args.self.now.replica.head.hut c.bytes-found.result.now c.replay-all-whole.result (state_of c.replay-all-whole.new.replica)
+  replayed : Replayed c.args.self.now.replica.head.hut c.bytes-found.result.now c.replay_all-whole.result (state_of c.replay_all-whole.new.replica)
   replayed =
-      subst (λ h. Replayed h c.bytes-found.result.now c.replay-all-whole.result (state_of c.replay-all-whole.new.replica)) (ap (λ (x : State). x.hut) c.forget.ensures)
-      c.replay-all-whole.ensures
+      subst (λ h. Replayed h c.bytes-found.result.now c.replay_all-whole.result (state_of c.replay_all-whole.new.replica)) (ap (λ (x : State). x.hut) c.forget.ensures)
+      c.replay_all-whole.ensures
 
   opens : 0 < vec_capacity c.args.self.now.journal.medium.held → is_ok c.restart.result ≡ true
   opens room = c.restart.ensures.sure (omega (arith, room, c.crash.ensures.room))
@@ -32,10 +32,10 @@ returns c =
     let s = state_of c.args.self.now.replica in
     record {
       kept = λ k in_step room.
-          let within = synced-within j s k c.args.kept in_step c.bytes-found.result.now c.replay-all-whole.result _ (replayed at) (is at) in
+          let within = synced-within j s k c.args.kept in_step c.bytes-found.result.now c.replay_all-whole.result _ (replayed at) (is at) in
           let held = c.restart.ensures.holds c.bytes-found.result.now j.medium.settled (opens at room) within (sym c.bytes-found.ensures, c.crash.ensures.settled) in (
             lost_by j s k c.args.kept in_step,
-            crash_keeps j s k c.args.kept in_step c.bytes-found.result.now c.replay-all-whole.result _ (replayed at) (is at) c.restart.new.self
+            crash_keeps j s k c.args.kept in_step c.bytes-found.result.now c.replay_all-whole.result _ (replayed at) (is at) c.restart.new.self
                 (succeeds _ c.restart.result (opens at room) c.restart.ensures.open).1 held.0 held.1,
           );
       state = (replayed at).state ∙ ap (λ bs. state_with s.hut (history_in s.hut bs)) (is at);
