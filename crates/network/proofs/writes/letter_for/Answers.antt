@@ -16,9 +16,9 @@ use Rattle.network.specs.Taking.{letter_for}
 use Rattle.network.proofs.Lettered.{letter_is}
 use Rattle.network.proofs.writes.letter_for.Given.{Over}
 use Rattle.network.proofs.writes.letter_for.Goals as goal
-use Rattle.network.proofs.writes.letter_for.Goals.{After-write-letter}
+use Rattle.network.proofs.writes.letter_for.Goals.{After-write_letter}
 
-module _ (g : Over) (c : After-write-letter g) where
+module _ (g : Over) (c : After-write_letter g) where
   abbrev was : State
   was = state_of c.args.keeper.now.replica
 
@@ -44,7 +44,7 @@ module _ (g : Over) (c : After-write-letter g) where
 
 pub returns-in-Ok-write_letter : goal.returns-in-Ok-write_letter
 returns-in-Ok-write_letter g c =
-    let at = (goal.at.returns-in-Ok-write_letter g c).After-write-letter in
+    let at = (goal.at.returns-in-Ok-write_letter g c).After-write_letter in
     record {
       written = subst (λ (l : PlainLetter). Written c.args.out.now c.write_letter.new.out (encode_letter l)) (letter g at) c.in-Ok-write_letter.ensures.written;
       lawful = subst LetterOk (letter g at) c.in-Ok-write_letter.ensures.lawful;
@@ -55,7 +55,7 @@ returns-in-Ok-write_letter g c =
 
 pub returns-in-Err-write_letter : goal.returns-in-Err-write_letter
 returns-in-Err-write_letter g c =
-    let at = (goal.at.returns-in-Err-write_letter g c).After-write-letter in
+    let at = (goal.at.returns-in-Err-write_letter g c).After-write_letter in
     record {
       written = c.in-Err-write_letter.ensures.written;
       lawful = tt;

@@ -10,7 +10,7 @@ use Rattle.entry_log.specs.Views.{log_in}
 use Rattle.entry_log.proofs.Inserting.{map-inserted, inserted-committed, inserted-tentative, inserted_once}
 use Rattle.entry_log.proofs.Putting.{into-ascends, has-drop}
 use Rattle.entry_log.proofs.log.Log.insert.Goals as goal
-use Rattle.entry_log.proofs.log.Log.insert.Goals.{After-insert-at}
+use Rattle.entry_log.proofs.log.Log.insert.Goals.{After-insert_at}
 
 pub insert_at-requires : goal.insert_at-requires
 insert_at-requires c =
@@ -19,10 +19,10 @@ insert_at-requires c =
     record { within = c.place_for-place.ensures.within; room = omega (arith, c.requires.room, was.entries.ok.0, was.room) }
 
 -- the log's entries with one more
-after : (c : After-insert-at) → map plain (vec_items c.insert_at.new.entries) ≡ insert (map plain (vec_items c.args.self.now.entries)) c.place_for-place.result (plain c.args.entry)
+after : (c : After-insert_at) → map plain (vec_items c.insert_at.new.entries) ≡ insert (map plain (vec_items c.args.self.now.entries)) c.place_for-place.result (plain c.args.entry)
 after c = ap (map plain) c.insert_at.ensures.items ∙ map-inserted plain (vec_items c.args.self.now.entries) c.place_for-place.result c.args.entry
 
-module _ (c : After-insert-at) where
+module _ (c : After-insert_at) where
   within : c.args.self.now.committed ≤ length (map plain (vec_items c.args.self.now.entries))
   within = simp length-map (omega (arith, c.args.self.now.within, c.args.self.now.entries.ok.0))
 
@@ -56,7 +56,7 @@ invariant_of-self c =
 
 pub returns : goal.returns
 returns c =
-    let there = (goal.at.returns c).After-insert-at in
+    let there = (goal.at.returns c).After-insert_at in
     record {
       log = ap (λ l. record { committed = l; tentative = drop c.args.self.now.committed (map plain (vec_items c.insert_at.new.entries)) }) (first_part there)
           ∙ ap (λ l. record { committed = take c.args.self.now.committed (map plain (vec_items c.args.self.now.entries)); tentative = l }) (second_part there);

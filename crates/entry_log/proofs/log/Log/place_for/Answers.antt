@@ -6,16 +6,16 @@ use Rattle.entry_log.specs.Order.{ascends}
 use Rattle.entry_log.proofs.Marks.{spot_within}
 use Rattle.entry_log.proofs.Views.{end_is}
 use Rattle.entry_log.proofs.log.Log.place_for.Goals as goal
-use Rattle.entry_log.proofs.log.Log.place_for.Goals.{After-spot-of}
+use Rattle.entry_log.proofs.log.Log.place_for.Goals.{After-spot_of}
 
 pub spot_of-requires : goal.spot_of-requires
 spot_of-requires c = ap ascends (end_is c.as_slice.result.now (vec_items c.args.self.now.entries) c.args.self.now.committed c.as_slice.ensures.value) ∙ c.args.self.now.sorted
 
-found : (c : After-spot-of) → c.spot_of.result ≡ spot (plain_mark c.args.mark.now) (drop c.args.self.now.committed (map plain (vec_items c.args.self.now.entries)))
+found : (c : After-spot_of) → c.spot_of.result ≡ spot (plain_mark c.args.mark.now) (drop c.args.self.now.committed (map plain (vec_items c.args.self.now.entries)))
 found c =
     c.spot_of.ensures ∙ ap (spot (plain_mark c.args.mark.now)) (end_is c.as_slice.result.now (vec_items c.args.self.now.entries) c.args.self.now.committed c.as_slice.ensures.value)
 
-within : (c : After-spot-of) → c.args.self.now.committed + c.spot_of.result ≤ vec_len c.args.self.now.entries
+within : (c : After-spot_of) → c.args.self.now.committed + c.spot_of.result ≤ vec_len c.args.self.now.entries
 within c =
     let was = c.args.self.now in
     let long : length (drop was.committed (map plain (vec_items was.entries))) ≡ length (vec_items was.entries) - was.committed = simp (length-drop, length-map) (omega arith) in

@@ -9,9 +9,9 @@ use Rattle.entry_log.specs.Room.{moved_to}
 use Rattle.entry_log.proofs.Putting.{without-ascends}
 use Rattle.entry_log.proofs.Settling.{map_moved, moved_committed, moved_tentative, parts_once}
 use Rattle.entry_log.proofs.log.Log.settle_known.Goals as goal
-use Rattle.entry_log.proofs.log.Log.settle_known.Goals.{After-move-to}
+use Rattle.entry_log.proofs.log.Log.settle_known.Goals.{After-move_to}
 
-module _ (c : After-move-to) where
+module _ (c : After-move_to) where
   -- the entries after the move
   after : map plain (with_items c.args.self.now.entries c.move_to.new.entries).items ≡ moved_to (map plain (vec_items c.args.self.now.entries)) c.args.self.now.committed c.args.last (plain c.args.entry)
   after =
@@ -41,7 +41,7 @@ module _ (c : After-move-to) where
 pub invariant_of-self : goal.invariant_of-self
 invariant_of-self c =
     let was = c.args.self.now in
-    let at = (goal.at.invariant_of-self c).After-move-to in (
+    let at = (goal.at.invariant_of-self c).After-move_to in (
       omega (arith, c.requires.tentative, c.requires.within),
       (
         ap ascends (back at) ∙ without-ascends (plain c.args.entry).mark _ was.sorted,
@@ -52,6 +52,6 @@ invariant_of-self c =
 pub returns : goal.returns
 returns c =
     let was = c.args.self.now in
-    let at = (goal.at.returns c).After-move-to in
+    let at = (goal.at.returns c).After-move_to in
     ap (λ l. record { committed = l; tentative = drop (was.committed + 1) (map plain (with_items was.entries c.move_to.new.entries).items) }) (front at)
     ∙ ap (λ l. record { committed = take was.committed (map plain (vec_items was.entries)) ++ plain c.args.entry ∷ []; tentative = l }) (back at)

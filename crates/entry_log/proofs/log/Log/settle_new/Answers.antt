@@ -10,7 +10,7 @@ use Rattle.entry_log.proofs.Inserting.{map-inserted}
 use Rattle.entry_log.proofs.Putting.{without-ascends, has-drop, has-take}
 use Rattle.entry_log.proofs.Settling.{placed_committed, placed_tentative, parts_once}
 use Rattle.entry_log.proofs.log.Log.settle_new.Goals as goal
-use Rattle.entry_log.proofs.log.Log.settle_new.Goals.{After-insert-at}
+use Rattle.entry_log.proofs.log.Log.settle_new.Goals.{After-insert_at}
 
 pub insert_at-requires : goal.insert_at-requires
 insert_at-requires c =
@@ -18,7 +18,7 @@ insert_at-requires c =
     let whole = ap length (take-append-drop was.committed (map plain (vec_items was.entries))) ∙ length-map (vec_items was.entries) plain in
     record { within = was.within; room = omega (arith, c.requires.room, was.entries.ok.0, was.room) }
 
-module _ (c : After-insert-at) where
+module _ (c : After-insert_at) where
   after : map plain (vec_items c.insert_at.new.entries) ≡ insert (map plain (vec_items c.args.self.now.entries)) c.args.self.now.committed (plain c.args.entry)
   after = ap (map plain) c.insert_at.ensures.items ∙ map-inserted plain (vec_items c.args.self.now.entries) c.args.self.now.committed c.args.entry
 
@@ -49,7 +49,7 @@ module _ (c : After-insert-at) where
 pub invariant_of-self : goal.invariant_of-self
 invariant_of-self c =
     let was = c.args.self.now in
-    let at = (goal.at.invariant_of-self c).After-insert-at in
+    let at = (goal.at.invariant_of-self c).After-insert_at in
     let whole = ap length (take-append-drop was.committed (map plain (vec_items was.entries))) ∙ length-map (vec_items was.entries) plain in (
       omega (arith, longer at, was.within),
       (
@@ -64,6 +64,6 @@ invariant_of-self c =
 pub returns : goal.returns
 returns c =
     let was = c.args.self.now in
-    let at = (goal.at.returns c).After-insert-at in
+    let at = (goal.at.returns c).After-insert_at in
     ap (λ l. record { committed = l; tentative = drop (was.committed + 1) (map plain (vec_items c.insert_at.new.entries)) }) (front at)
     ∙ ap (λ l. record { committed = take was.committed (map plain (vec_items was.entries)) ++ plain c.args.entry ∷ []; tentative = l }) (back at)

@@ -13,13 +13,13 @@ use Rattle.journal.proofs.Keeping.{keeps_wrote-synced, commits_is, record_fits, 
 use Rattle.journal.proofs.Standing.{commit_stands}
 use Rattle.journal.proofs.keeper.Keeper.commit.Given.{Over}
 use Rattle.journal.proofs.keeper.Keeper.commit.Goals as goal
-use Rattle.journal.proofs.keeper.Keeper.commit.Goals.{After-append-synced}
+use Rattle.journal.proofs.keeper.Keeper.commit.Goals.{After-append_synced}
 
 first_marked : (ts : List PlainEntry) (e : PlainEntry) → first_entry ts ≡ Some e → Some e.mark ≡ first_mark ts
 first_marked [] e q = let z : ◌≡◌ {A = ℕ} 0 1 = cc in absurd (omega arith)
 first_marked (t ∷ ts) e q = let same : t ≡ e = cc in ap (λ (x : PlainEntry). Some x.mark) (sym same)
 
-module _ (g : Over) (c : After-append-synced g) where
+module _ (g : Over) (c : After-append_synced g) where
   abbrev was : State
   was = state_of c.args.self.now.replica
 
@@ -46,7 +46,7 @@ module _ (g : Over) (c : After-append-synced g) where
 
 pub returns-in-Ok-append_synced : goal.returns-in-Ok-append_synced
 returns-in-Ok-append_synced g c =
-    let at = (goal.at.returns-in-Ok-append_synced g c).After-append-synced in
+    let at = (goal.at.returns-in-Ok-append_synced g c).After-append_synced in
     record {
       answer = (c.in-Ok.ensures.0, first_marked (was g at).log.tentative (plain c.in-Some.entry) (first g at));
       kept = λ k in_step.
@@ -59,7 +59,7 @@ returns-in-Ok-append_synced g c =
 
 pub returns-in-Err-append_synced : goal.returns-in-Err-append_synced
 returns-in-Err-append_synced g c =
-    let at = (goal.at.returns-in-Err-append_synced g c).After-append-synced in
+    let at = (goal.at.returns-in-Err-append_synced g c).After-append_synced in
     record {
       answer = c.in-Err-append_synced.ensures.shut.0;
       kept = λ k in_step.

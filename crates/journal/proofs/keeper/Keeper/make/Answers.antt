@@ -10,9 +10,9 @@ use Rattle.journal.specs.Records.{bytes_of}
 use Rattle.journal.proofs.Keeping.{keeps_wrote-synced, record_fits, durable_lasts, made_follows, makes_is}
 use Rattle.journal.proofs.keeper.Keeper.make.Given.{Over}
 use Rattle.journal.proofs.keeper.Keeper.make.Goals as goal
-use Rattle.journal.proofs.keeper.Keeper.make.Goals.{After-append-synced}
+use Rattle.journal.proofs.keeper.Keeper.make.Goals.{After-append_synced}
 
-module _ (g : Over) (c : After-append-synced g) where
+module _ (g : Over) (c : After-append_synced g) where
   abbrev was : State
   was = state_of c.args.self.now.replica
 
@@ -33,7 +33,7 @@ module _ (g : Over) (c : After-append-synced g) where
 
 pub returns-in-Ok-append_synced : goal.returns-in-Ok-append_synced
 returns-in-Ok-append_synced g c =
-    let at = (goal.at.returns-in-Ok-append_synced g c).After-append-synced in
+    let at = (goal.at.returns-in-Ok-append_synced g c).After-append_synced in
     record {
       answer = (c.in-Ok.ensures.0, c.in-Ok.ensures.1);
       kept = λ k in_step.
@@ -46,7 +46,7 @@ returns-in-Ok-append_synced g c =
 
 pub returns-in-Err-append_synced : goal.returns-in-Err-append_synced
 returns-in-Err-append_synced g c =
-    let at = (goal.at.returns-in-Err-append_synced g c).After-append-synced in
+    let at = (goal.at.returns-in-Err-append_synced g c).After-append_synced in
     record {
       answer = c.in-Err-append_synced.ensures.shut.0;
       kept = λ k in_step.
