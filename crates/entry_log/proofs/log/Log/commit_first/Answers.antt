@@ -25,7 +25,12 @@ pub invariant_of-self : goal.invariant_of-self
 invariant_of-self c =
     let was = c.args.self.now in
     let at = (goal.at.invariant_of-self c).After-index-entry in
-    (search rules, (next_ascends _ was.committed (plain c.index-entry.result.now) (there at) (is at) was.sorted, (was.once, (was.room, tt))))
+    record {
+      within = search rules;
+      sorted = next_ascends _ was.committed (plain c.index-entry.result.now) (there at) (is at) was.sorted;
+      once = was.once;
+      room = was.room;
+    }
 
 pub returns : goal.returns
 returns c =

@@ -52,7 +52,12 @@ invariant_of-self c =
     let whole = ap length (take-append-drop was.committed (map plain (vec_items was.entries))) ∙ length-map (vec_items was.entries) plain in
     let sorted = ap ascends (second_part c) ∙ into-ascends (plain c.args.entry) _ was.sorted (has-drop (plain c.args.entry).mark was.committed _ (new c)) in
     let once = subst Once (sym (after c)) (inserted_once _ _ _ _ (within c) c.place_for-place.ensures.value (fits c) was.once (new c)) in
-    (omega (arith, longer c, was.within), (sorted, (once, ((omega (arith, longer c, c.requires.room, was.entries.ok.0), omega (arith, c.insert_at.ensures.capacity, was.room)), tt))))
+    record {
+      within = omega (arith, longer c, was.within);
+      sorted = sorted;
+      once = once;
+      room = (omega (arith, longer c, c.requires.room, was.entries.ok.0), omega (arith, c.insert_at.ensures.capacity, was.room));
+    }
 
 pub returns : goal.returns
 returns c =

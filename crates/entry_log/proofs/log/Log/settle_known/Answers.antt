@@ -41,13 +41,12 @@ module _ (c : After-move_to) where
 pub invariant_of-self : goal.invariant_of-self
 invariant_of-self c =
     let was = c.args.self.now in
-    let at = (goal.at.invariant_of-self c).After-move_to in (
-      omega (arith, c.requires.tentative, c.requires.within),
-      (
-        ap ascends (back at) ∙ without-ascends (plain c.args.entry).mark _ was.sorted,
-        (parts_once (map plain (vec_items was.entries)) was.committed (plain c.args.entry) (within at) _ (front at) (back at) was.once c.requires.new, (was.room, tt)),
-      ),
-    )
+    let at = (goal.at.invariant_of-self c).After-move_to in record {
+      within = omega (arith, c.requires.tentative, c.requires.within);
+      sorted = ap ascends (back at) ∙ without-ascends (plain c.args.entry).mark _ was.sorted;
+      once = parts_once (map plain (vec_items was.entries)) was.committed (plain c.args.entry) (within at) _ (front at) (back at) was.once c.requires.new;
+      room = was.room;
+    }
 
 pub returns : goal.returns
 returns c =

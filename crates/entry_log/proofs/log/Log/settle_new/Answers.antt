@@ -50,16 +50,12 @@ pub invariant_of-self : goal.invariant_of-self
 invariant_of-self c =
     let was = c.args.self.now in
     let at = (goal.at.invariant_of-self c).After-insert_at in
-    let whole = ap length (take-append-drop was.committed (map plain (vec_items was.entries))) ∙ length-map (vec_items was.entries) plain in (
-      omega (arith, longer at, was.within),
-      (
-        ap ascends (back at) ∙ without-ascends (plain c.args.entry).mark _ was.sorted,
-        (
-          parts_once (map plain (vec_items was.entries)) was.committed (plain c.args.entry) (within at) _ (front at) (back at) was.once (has-take _ was.committed _ (new at)),
-          ((omega (arith, longer at, c.requires.room, was.entries.ok.0), omega (arith, c.insert_at.ensures.capacity, was.room)), tt),
-        ),
-      ),
-    )
+    let whole = ap length (take-append-drop was.committed (map plain (vec_items was.entries))) ∙ length-map (vec_items was.entries) plain in record {
+      within = omega (arith, longer at, was.within);
+      sorted = ap ascends (back at) ∙ without-ascends (plain c.args.entry).mark _ was.sorted;
+      once = parts_once (map plain (vec_items was.entries)) was.committed (plain c.args.entry) (within at) _ (front at) (back at) was.once (has-take _ was.committed _ (new at));
+      room = (omega (arith, longer at, c.requires.room, was.entries.ok.0), omega (arith, c.insert_at.ensures.capacity, was.room));
+    }
 
 pub returns : goal.returns
 returns c =

@@ -23,7 +23,7 @@ redo_log-requires c =
 
 pub invariant_of-self-2 : goal.invariant_of-self-2
 invariant_of-self-2 c =
-    let none = ap all_of c.clear.ensures in (
-      (sym (ap length none), sym (ap top none), c.zero.ensures ∙ vector_none ∙ sym (ap vector_of none)),
-      (∣ c.redo_log.ensures ∙ ap book_of c.as_slice.ensures ∣₁, tt),
-    )
+    let none = ap all_of c.clear.ensures in record {
+      headed = (sym (ap length none), sym (ap top none), c.zero.ensures ∙ vector_none ∙ sym (ap vector_of none));
+      in_step = ∣ c.redo_log.ensures ∙ ap book_of c.as_slice.ensures ∣₁;
+    }

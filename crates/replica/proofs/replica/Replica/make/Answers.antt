@@ -33,14 +33,11 @@ pub invariant_of-self : goal.invariant_of-self
 invariant_of-self c =
     let es = all_of (log_in c.args.self.now.log) in
     let e = plain (record { mark = c.in-Ok.mark; kind = c.args.kind }) in
-    let head = c.args.self.now.headed in (
-      (
+    let head = c.args.self.now.headed in record {
+      headed = (
         c.with-self.ensures.entries ∙ ap (λ n. n + 1) head.0 ∙ sym (ap length (last c) ∙ length_push es e),
         omega (arith, c.with-self.ensures.top, head.1, ap top (last c), top-push es e),
         c.with-self.ensures.seen ∙ ap (noted e.mark) head.2 ∙ sym (ap vector_of (last c) ∙ vector_push es e c.in-Ok.mark.hut_ok),
-      ),
-      (
-        step_push c.apply.result (book_in c.args.self.now.book) (book_in c.apply.new.self) e es _ c.apply.ensures c.args.self.now.in_step (room (goal.at.invariant_of-self c).In-Ok) (last c),
-        tt,
-      ),
-    )
+      );
+      in_step = step_push c.apply.result (book_in c.args.self.now.book) (book_in c.apply.new.self) e es _ c.apply.ensures c.args.self.now.in_step (room (goal.at.invariant_of-self c).In-Ok) (last c);
+    }

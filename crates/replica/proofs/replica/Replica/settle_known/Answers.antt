@@ -30,11 +30,11 @@ invariant_of-self-2 c =
     let was = c.args.self.now in
     let l = log_in was.log in
     let e = plain c.args.entry in
-    let after = ap all_of c.settle.ensures in (
-      (
+    let after = ap all_of c.settle.ensures in record {
+      headed = (
         was.headed.0 ∙ sym (ap length after ∙ known_length e l c.requires.known (log_once was.log)),
         was.headed.1 ∙ sym (ap top after ∙ known_top e l c.requires.known),
         was.headed.2 ∙ sym (ap vector_of after ∙ known_vector e l c.requires.known),
-      ),
-      (∣ c.redo_log.ensures ∙ ap book_of c.as_slice.ensures ∣₁, tt),
-    )
+      );
+      in_step = ∣ c.redo_log.ensures ∙ ap book_of c.as_slice.ensures ∣₁;
+    }

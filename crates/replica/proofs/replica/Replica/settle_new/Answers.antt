@@ -38,11 +38,11 @@ invariant_of-self c =
     let l = log_in was.log in
     let e = plain c.args.entry in
     let new = (has_parts e.mark l.committed l.tentative c.requires.new).1 in
-    let after = ap all_of c.settle.ensures in (
-      (
+    let after = ap all_of c.settle.ensures in record {
+      headed = (
         c.with-self.ensures.entries ∙ ap (λ n. n + 1) was.headed.0 ∙ sym (ap length after ∙ new_length e l new),
         omega (arith, c.with-self.ensures.top, was.headed.1, ap top after, new_top e l new),
         c.with-self.ensures.seen ∙ ap (noted e.mark) was.headed.2 ∙ sym (ap vector_of after ∙ new_vector e l new c.args.entry.mark.hut_ok),
-      ),
-      (∣ c.redo_log.ensures ∙ ap book_of c.as_slice.ensures ∣₁, tt),
-    )
+      );
+      in_step = ∣ c.redo_log.ensures ∙ ap book_of c.as_slice.ensures ∣₁;
+    }

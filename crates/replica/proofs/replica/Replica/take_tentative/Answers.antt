@@ -38,11 +38,11 @@ invariant_of-self c =
     let was = c.args.self.now in
     let l = log_in was.log in
     let e = plain c.args.entry in
-    let at = (goal.at.invariant_of-self c).After-insert-place in (
-      (
+    let at = (goal.at.invariant_of-self c).After-insert-place in record {
+      headed = (
         c.with-self.ensures.entries ∙ ap (λ n. n + 1) was.headed.0 ∙ sym (ap length (after at) ∙ tentative-length e l),
         omega (arith, c.with-self.ensures.top, was.headed.1, ap top (after at), tentative-top e l),
         c.with-self.ensures.seen ∙ ap (noted e.mark) was.headed.2 ∙ sym (ap vector_of (after at) ∙ tentative_vector e l c.args.entry.mark.hut_ok),
-      ),
-      (∣ c.redo_log.ensures ∙ ap book_of c.as_slice.ensures ∣₁, tt),
-    )
+      );
+      in_step = ∣ c.redo_log.ensures ∙ ap book_of c.as_slice.ensures ∣₁;
+    }
