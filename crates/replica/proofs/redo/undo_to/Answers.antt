@@ -19,7 +19,7 @@ loop-n-init c = (
 
 pub loop-n-preserved : goal.loop-n-preserved
 loop-n-preserved c = (
-  λ es ok is. undo_front es c.loop-n.-n (book_in c.loop-n.book) (book_in c.undo.new.self) ok (omega arith) (omega (arith, c.len-n.ensures, long (book_in c.args.book.now) es is)) (c.loop-n.invariant.0 es ok is) c.undo.ensures.before,
+  λ es ok is. undo_front es c.loop-n._n (book_in c.loop-n.book) (book_in c.undo.new.self) ok (omega arith) (omega (arith, c.len-n.ensures, long (book_in c.args.book.now) es is)) (c.loop-n.invariant.0 es ok is) c.undo.ensures.before,
   omega (arith, c.loop-n.invariant.1),
 )
 
@@ -28,6 +28,6 @@ returns c = λ es ok is.
     let many = long (book_in c.args.book.now) es is in
     c.loop-n.invariant.0 es ok is
     ∙ ap book_of
-    (⊎_elim (λ past. take_all c.loop-n.-n es (omega (arith, c.loop-n.invariant.1, c.len-n.ensures)) ∙ sym (take_all c.args.place es (omega arith)))
-    (λ within. let same : c.loop-n.-n ≡ c.args.place = omega (arith, c.loop-n.invariant.1) in ap (λ k. take k es) same)
+    (⊎_elim (λ past. take_all c.loop-n._n es (omega (arith, c.loop-n.invariant.1, c.len-n.ensures)) ∙ sym (take_all c.args.place es (omega arith)))
+    (λ within. let same : c.loop-n._n ≡ c.args.place = omega (arith, c.loop-n.invariant.1) in ap (λ k. take k es) same)
     (cases_lt (length es) c.args.place))
