@@ -1,5 +1,5 @@
-use Rattle.std.proofs.Common.{◌≡◌, sym, refl, ap, subst, rules}
-use Rattle.bookings.specs.Held.{Few}
+use Rattle.std.proofs.Common.{ap, rules}
+use Rattle.bookings.specs.declared.entry.Choice.{Choice}
 use Rattle.bookings.specs.Outcomes.{plain_grant, plain_outcome}
 use Rattle.bookings.specs.Plain.{plain_choice}
 use Rattle.bookings.proofs.Back.{few_release}
@@ -11,9 +11,5 @@ release_beds-requires c = record { long = search rules; held = c.requires.covere
 
 pub reinstate-requires : goal.reinstate-requires
 reinstate-requires c =
-    record {
-      long = search rules;
-      few =
-          subst Few (sym c.release_beds.ensures)
-          (few_release c.args.booked.now (plain_choice c.in-Holds.grant.choice) c.requires.long (stay_ok c.in-Holds.grant.choice.stay) c.requires.few);
-    }
+    let freed = λ (d : Choice). few_release c.args.booked.now (plain_choice d) c.requires.long (stay_ok d.stay) c.requires.few in
+    record { long = search rules; few = search (rules, freed) }

@@ -1,9 +1,8 @@
-use Rattle.std.proofs.Common.{◌≡◌, [], ◌∷◌, ◌++◌, map, length, vec_items, sym, refl, ap, ◌∙◌, subst, arith, rules}
+use Rattle.std.proofs.Common.{◌≡◌, [], ◌∷◌, ◌++◌, map, length, vec_items, sym, ap, ◌∙◌, rules}
 use lib.ListN.{length-map}
 use Rattle.std.proofs.lemmas.List.{with_items_is, map_push}
 use Rattle.std.specs.Vec.{with_items}
-use Rattle.bookings.specs.Books.{PlainBook, Effect, does}
-use Rattle.bookings.specs.Held.{Covered, Few}
+use Rattle.bookings.specs.Books.{Effect, does}
 use Rattle.bookings.specs.Outcomes.{plain_outcome}
 use Rattle.bookings.specs.Plain.{plain, plain_mark, plain_kind}
 use Rattle.bookings.specs.Views.{book_in}
@@ -12,9 +11,6 @@ use Rattle.bookings.proofs.Reach.{reached_sound, reached_covered, reached_few, r
 use Rattle.bookings.proofs.Whole.{entered_is, same_book}
 use Rattle.bookings.proofs.book.Book.apply.Goals as goal
 use Rattle.bookings.proofs.book.Book.apply.Goals.{After-push_reserved-2}
-
-pub returns-then-len-ge-CAPACITY : goal.returns-then-len-ge-CAPACITY
-returns-then-len-ge-CAPACITY c = (refl, simp length-map (search rules), refl)
 
 pub carry_out-own-requires : goal.carry_out-own-requires
 carry_out-own-requires c =

@@ -7,12 +7,12 @@ use Rattle.bookings.proofs.book.Book.night.Goals as goal
 
 pub index-requires : goal.index-requires
 index-requires c =
-    let long = (reached_sound (book_in c.args.self.now) c.args.self.now.reached).0.long_beds in
+    let sound = (reached_sound (book_in c.args.self.now) c.args.self.now.reached).0 in
     search rules
 
 pub index-requires-2 : goal.index-requires-2
 index-requires-2 c =
-    let long = (reached_sound (book_in c.args.self.now) c.args.self.now.reached).0.long_booked in
+    let sound = (reached_sound (book_in c.args.self.now) c.args.self.now.reached).0 in
     search rules
 
 pub returns : goal.returns

@@ -1,11 +1,11 @@
-use Rattle.std.proofs.Common.{◌≡◌, ◌-◌, ◌<◌, [], ◌∷◌, ◌++◌, map, length, get_or, vec_items, vec_len, sym, refl, ap, ◌∙◌, subst, arith, rules, le-ltb, lt-ltb}
+use Rattle.std.proofs.Common.{◌≡◌, ◌-◌, ◌<◌, List, map, length, get_or, vec_items, vec_len, take, sym, refl, ap, ◌∙◌, subst, arith, rules, le-ltb, lt-ltb}
 use lib.ListN.{length-map}
 use Rattle.std.proofs.lemmas.List.{with_items_is, append-nil}
 use Rattle.std.specs.Vec.{with_items}
 use Rattle.bookings.specs.Outcomes.{nothing, plain_outcome}
-use Rattle.bookings.specs.Plain.{plain_mark}
+use Rattle.bookings.specs.Plain.{PlainMark, plain_mark}
 use Rattle.bookings.specs.Reached.{Reached}
-use Rattle.bookings.specs.Undone.{Rest, undone}
+use Rattle.bookings.specs.Undone.{undone}
 use Rattle.bookings.specs.Views.{book_in}
 use Rattle.bookings.proofs.Reach.{reached_sound, reached_covered, reached_few, reached_undone}
 use Rattle.bookings.proofs.Undoing.{undone-does}
@@ -59,12 +59,13 @@ take_back-requires c =
       few = rw c.as_mut_slice-2.ensures.value (reached_few b reached);
     }
 
--- the book as it stands once the last entry is taken out and taken back
+-- the book as it stands once the last entry is taken out and taken back, where the marks have lost their last
 done :
-    (c : After-take_back)
-    → record { beds = (with_items c.args.self.now.beds c.take_back.new.beds).items; booked = (with_items c.args.self.now.booked c.take_back.new.booked).items; marks = map plain_mark (vec_items c.pop-2.new.self); outcomes = map plain_outcome (with_items c.pop.new.self c.take_back.new.outcomes).items }
+    (c : After-take_back) (marks : List PlainMark)
+    → marks ≡ take (length (book_in c.args.self.now).marks - 1) (book_in c.args.self.now).marks
+    → record { beds = (with_items c.args.self.now.beds c.take_back.new.beds).items; booked = (with_items c.args.self.now.booked c.take_back.new.booked).items; marks = marks; outcomes = map plain_outcome (with_items c.pop.new.self c.take_back.new.outcomes).items }
     ≡ undone (book_in c.args.self.now)
-done c =
+done c marks marks_is =
     let was = c.args.self.now in
     let long_beds : length c.take_back.new.beds ≡ was.beds.len = search rules in
     let long_booked : length c.take_back.new.booked ≡ was.booked.len = search rules in
@@ -73,22 +74,24 @@ done c =
     undone_is (book_in was) _ (record { beds = c.take_back.new.beds; booked = c.take_back.new.booked; outcomes = map plain_outcome c.take_back.new.outcomes }) (plain_outcome c.in-Some.last) _ _ _ _
     (same_rest c.as_mut_slice.ensures.value c.as_mut_slice-2.ensures.value (ap (map plain_outcome) c.as_mut_slice-3.ensures.value ∙ front))
     (last_is (goal.at.After-take_back c).In-Some) c.take_back.ensures
-    (with_items_is was.beds c.take_back.new.beds long_beds) (with_items_is was.booked c.take_back.new.booked long_booked)
-    (popped_front plain_mark (vec_items was.marks) (vec_items c.pop-2.new.self) (vec_len was.marks) was.marks.ok.0 c.pop-2.ensures.rest)
+    (with_items_is was.beds c.take_back.new.beds long_beds) (with_items_is was.booked c.take_back.new.booked long_booked) marks_is
     (ap (map plain_outcome) (with_items_is c.pop.new.self c.take_back.new.outcomes long-outcomes))
 
 pub invariant_of-self-2 : goal.invariant_of-self-2
 invariant_of-self-2 c =
+    let was = c.args.self.now in
     record {
-      reached = subst Reached (sym (done (goal.at.invariant_of-self-2 c).After-take_back)) (reached_undone (book_in c.args.self.now) c.args.self.now.reached (some_mark (goal.at.invariant_of-self-2 c).In-Some));
+      reached = subst Reached (sym (done (goal.at.invariant_of-self-2 c).After-take_back _ (popped_front plain_mark (vec_items was.marks) _ (vec_len was.marks) was.marks.ok.0 (search rules)))) (reached_undone (book_in was) was.reached (some_mark (goal.at.invariant_of-self-2 c).In-Some));
       room = search rules;
     }
 
 pub returns : goal.returns
 returns c =
+    let was = c.args.self.now in
     let some = some_mark (goal.at.returns c).In-Some in
     record {
       test = sym (lt-ltb 0 _ some);
       none = λ none. absurd (omega arith);
-      before = λ e b ok reached is. done (goal.at.returns c).After-take_back ∙ ap undone is ∙ undone-does e b ok (reached_sound b reached);
+      before = λ e b ok reached is.
+          done (goal.at.returns c).After-take_back _ (popped_front plain_mark (vec_items was.marks) _ (vec_len was.marks) was.marks.ok.0 (search rules)) ∙ ap undone is ∙ undone-does e b ok (reached_sound b reached);
     }
