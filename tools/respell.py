@@ -9,7 +9,6 @@ new one; `respell.py --list` made it, from two states of the repository.
 
 import os
 import re
-import subprocess
 import sys
 
 ROOT = os.getcwd()
@@ -179,7 +178,8 @@ def main():
     for page in ["README.md"] + [os.path.join("docs", n) for n in sorted(os.listdir(os.path.join(ROOT, "docs"))) if n.endswith(".md")]:
         change(os.path.join(ROOT, page), lambda text: respell_page(text, new))
     for old, to in RENAMED_CRATES.items():
-        subprocess.run(["git", "mv", f"crates/{old}", f"crates/{to}"], check=True, cwd=ROOT)
+        if os.path.isdir(os.path.join(ROOT, "crates", old)):
+            os.rename(os.path.join(ROOT, "crates", old), os.path.join(ROOT, "crates", to))
 
 
 if __name__ == "__main__":
