@@ -1,9 +1,9 @@
 // What is played: makes and commits, which are synced, and takes, which are not.
 use anyhow::anyhow;
 use bookings::entry::{Choice, Choices, Entry, Kind, Mark, Stay, Supply};
+use entry_log::vector::Vector;
 use journal::journal::Journal;
 use journal::keeper::Keeper;
-use entry_log::vector::Vector;
 use std::alloc::Global;
 
 #[derive(Clone, Copy)]

@@ -1,9 +1,9 @@
 -- A journal in memory after a crash, opened again.
-use Rattle.std.proofs.Common.{◌≡◌, ℕ, ◌+◌, ◌≤◌, false, List, ◌++◌, length, take, drop, vec_items, sym, refl, ap, ◌∙◌, subst, arith}
+use Rattle.std.proofs.Common.{◌≡◌, ℕ, ◌+◌, ◌≤◌, false, List, length, take, drop, vec_items, refl, ap, ◌∙◌, subst, arith}
 use Rattle.replica.specs.Model.{State}
 use Rattle.journal.specs.declared.appender.Appender.{Appender}
 use Rattle.journal.specs.declared.memory.Memory.{Memory}
-use Rattle.journal.specs.History.{PlainRecord, Kept, history_of, state_with, synced, crashed}
+use Rattle.journal.specs.History.{Kept, history_of, state_with, synced, crashed}
 use Rattle.journal.specs.Keeping.{Keeps, InMemory, left_by}
 use Rattle.journal.specs.Records.{bytes_of, history_in, Replayed, Stands}
 use Rattle.journal.proofs.Keeping.{durable-within}

@@ -1,5 +1,5 @@
 -- A replica and its journal stay in step: a record more, and a sync.
-use Rattle.std.proofs.Common.{◌≡◌, ℕ, ◌+◌, ◌*◌, ◌≤◌, true, cond, List, [], ◌∷◌, ◌++◌, length, take, None, Option, sym, refl, ap, ◌∙◌, subst, arith, length-append}
+use Rattle.std.proofs.Common.{◌≡◌, ℕ, ◌+◌, ◌*◌, ◌≤◌, true, cond, List, [], ◌∷◌, ◌++◌, length, take, None, Option, sym, ap, ◌∙◌, subst, arith, length-append}
 use Rattle.bookings.specs.Plain.{PlainMark, PlainKind, PlainEntry}
 use Rattle.letters.specs.Laws.{EntryOk}
 use Rattle.entry_log.specs.Logs.{all_of, first_entry}

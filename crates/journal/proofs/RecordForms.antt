@@ -1,11 +1,10 @@
 -- The bytes of a record: read back, found short where they are cut, and its only form.
-use Rattle.std.proofs.Common.{◌≡◌, ℕ, ◌+◌, ◌<◌, ◌≤◌, eqb, List, [], ◌∷◌, ◌++◌, length, sym, refl, subst, arith, eqb-true}
+use Rattle.std.proofs.Common.{◌≡◌, ℕ, ◌<◌, ◌≤◌, eqb, [], ◌∷◌, length, sym, refl, subst, arith, eqb-true}
 use Rattle.bookings.specs.Plain.{PlainEntry}
 use Rattle.bookings.specs.Ranges.{InRange}
 use Rattle.bookings.proofs.Ranged.{in_range}
-use Rattle.letters.specs.Answers.{Answer, got, after}
 use Rattle.letters.specs.Format.{encode, read_one, reads}
-use Rattle.letters.specs.Laws.{EntryOk, Bytes}
+use Rattle.letters.specs.Laws.{EntryOk}
 use Rattle.letters.proofs.Codes.{Codes, codes_then, codes_map}
 use Rattle.letters.proofs.Exact.{Exact, exact_got, exact_then, exact_cond, exact_out}
 use Rattle.letters.proofs.OneEntry.{exact_entry}

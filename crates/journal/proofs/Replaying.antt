@@ -1,9 +1,9 @@
 -- Records are replayed one after another: what was read is a history, and it and what is left tell what all tells.
-use Rattle.std.proofs.Common.{◌≡◌, ℕ, zero, suc, ◌+◌, ◌-◌, ◌<◌, ◌≤◌, List, [], ◌∷◌, ◌++◌, length, take, Some, None, Option, sym, refl, ap, ◌∙◌, subst, append_assoc, arith, length-append}
+use Rattle.std.proofs.Common.{◌≡◌, ℕ, zero, suc, ◌+◌, ◌-◌, ◌<◌, ◌≤◌, List, [], ◌∷◌, ◌++◌, length, take, Some, None, sym, refl, ap, ◌∙◌, subst, append_assoc, arith, length-append}
 use Rattle.std.proofs.lemmas.List.{take_at}
 use Rattle.entry_log.specs.Logs.{empty_log}
 use Rattle.replica.specs.Model.{State}
-use Rattle.letters.specs.Answers.{got, short, out, wrong}
+use Rattle.letters.specs.Answers.{got, wrong}
 use Rattle.letters.specs.declared.wrong.Wrong.{Wrong}
 use Rattle.letters.specs.declared.wrong.Wrong.TheVariants.{Short, Out}
 use Rattle.journal.specs.History.{PlainRecord, Tentative, Committed, state_with}

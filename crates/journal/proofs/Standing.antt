@@ -1,13 +1,13 @@
 -- What a replica does can be replayed, and a history has two records an entry at most.
-use Rattle.std.proofs.Common.{◌≡◌, ℕ, zero, suc, ◌+◌, ◌<◌, ◌≤◌, Bool, true, false, cond, not, ◌||◌, eqb, leb, List, [], ◌∷◌, ◌++◌, length, get_or, replicate, Some, None, Option, sym, refl, ap, ◌∙◌, subst, inl, inr, arith, length-append}
-use Rattle.std.proofs.lemmas.Bool.{cases_Bool, eq-eqb, eqb-true, not-true, not-false, or_parts, leb-false, le-leb}
+use Rattle.std.proofs.Common.{◌≡◌, ℕ, zero, suc, ◌+◌, ◌<◌, ◌≤◌, Bool, true, false, cond, not, eqb, leb, List, [], ◌∷◌, length, get_or, replicate, Some, None, Option, refl, ap, ◌∙◌, subst, inl, inr, arith, length-append}
+use Rattle.std.proofs.lemmas.Bool.{cases_Bool, eq-eqb, eqb-true, not-false, or_parts, leb-false, le-leb}
 use Rattle.bookings.specs.Books.{named_by, same_mark}
 use Rattle.bookings.specs.Plain.{PlainMark, PlainKind, PlainEntry}
 use Rattle.bookings.proofs.Find.{same_is}
-use Rattle.entry_log.specs.Logs.{PlainLog, all_of, has, first_entry, add_tentative, add_committed, without, into}
+use Rattle.entry_log.specs.Logs.{PlainLog, all_of, has, first_entry, add_tentative, into}
 use Rattle.entry_log.specs.Order.{Once, times}
 use Rattle.entry_log.specs.Vectors.{vector_of, covers, covers_from, no_stamps}
-use Rattle.entry_log.proofs.Putting.{times-append, times-into, has_none, none_has, has_some, has_parts, same_self, one_more, none_more}
+use Rattle.entry_log.proofs.Putting.{times-append, times-into, has_none, none_has, same_self, one_more, none_more}
 use Rattle.entry_log.proofs.Settling.{settled_once}
 use Rattle.replica.specs.Model.{State, entry_made, next_mark, no_room, names_unknown, make_refusal, take_tentative_refusal, take_committed_refusal}
 use Rattle.replica.proofs.Committing.{known_length, new_length}

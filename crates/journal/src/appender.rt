@@ -7,7 +7,7 @@ use crate::journal::Journal;
 use crate::medium::Medium;
 
 #[derive(Drop)]
-pub struct Appender<M: Medium + Drop> {
+pub struct Appender<M> {
     pub(crate) medium: M,
     // Something was written behind the last sync.
     pub(crate) dirty: bool,
@@ -29,9 +29,9 @@ impl<M: Medium + Drop> Appender<M> {
     // Goes on behind the first `left` bytes, all of which are synced.
     pub(crate) fn restart(&mut self, left: usize) -> Result<(), Fault>
         ensures open { MatchResult result (λ _. (self.new.dirty ≡ false) × (self.new.shut ≡ false)) (λ _. self.new.shut ≡ true) }
-        ensures holds { (bs : List ℕ) (n : ℕ) → is_ok result ≡ true → n ≤ left → holds self.old.medium bs n → holds self.new.medium (take left bs) (length (take left bs)) }
-        ensures room { room self.old.medium ≤ room self.new.medium }
-        ensures sure { 0 < room self.old.medium → is_ok result ≡ true }
+        ensures holds { (bs : List ℕ) (n : ℕ) → is_ok result ≡ true → n ≤ left → M.holds self.old.medium bs n → M.holds self.new.medium (take left bs) (length (take left bs)) }
+        ensures room { M.room self.old.medium ≤ M.room self.new.medium }
+        ensures sure { 0 < M.room self.old.medium → is_ok result ≡ true }
     {
         self.shut = true;
         self.medium.cut(left)?;

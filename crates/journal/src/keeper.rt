@@ -1,7 +1,6 @@
 // A replica over its journal.
 ghost use Rattle.std.specs.Prelude.{◌≤◌, vec_capacity};
 
-use crate::journal::Journal;
 use replica::replica::Replica;
 
 mod crashes;
@@ -11,7 +10,7 @@ mod takes;
 mod writes;
 
 #[derive(Drop)]
-pub struct Keeper<J: Journal + Drop> {
+pub struct Keeper<J> {
     pub(crate) replica: Replica,
     pub(crate) journal: J,
     // One record's bytes; the room for them is reserved once.

@@ -1,6 +1,6 @@
 // A medium in memory, that crashes when it is told to.
 ghost use Rattle.std.specs.Prelude.{◌≡◌, ℕ, ◌+◌, ◌≤◌, List, [], length, take, IfOk, vec_len, vec_capacity};
-ghost use Rattle.std.proofs.Common.{rules, arith};
+ghost use Rattle.std.proofs.Common.{rules};
 
 use crate::fault::Fault;
 use crate::medium::Medium;
@@ -49,7 +49,7 @@ impl Medium for Memory {
 
     ghost room = { λ m. vec_capacity m.held };
 
-    ghost stays = { first_of (Prim.search rules, Prim.grind (arith, Self.row.coded.inj)) };
+    ghost stays = { Prim.search rules };
 
     fn put(&mut self, more: &[u8]) -> Result<(), Fault> {
         if self.held.extend_from_slice(more).is_err() {

@@ -2,7 +2,6 @@
 use crate::appender::Appender;
 use crate::fault::Fault;
 use crate::keeper::Keeper;
-use crate::medium::Medium;
 use bookings::refusal::Refusal;
 
 #[derive(Clone, Copy)]
@@ -16,7 +15,7 @@ pub enum NotOpened {
 
 // A replica over its journal, and how many bytes behind the last record were cut off.
 #[derive(Drop)]
-pub struct Opened<M: Medium + Drop> {
+pub struct Opened<M> {
     pub keeper: Keeper<Appender<M>>,
     pub cut: usize,
 }

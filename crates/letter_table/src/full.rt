@@ -1,10 +1,10 @@
 // A letter cut at each byte, and letters of as many entries as there may be.
 use crate::{booking, letter, row};
 use bookings::entry::Entry;
-use letters::letter::Letter;
-use letters::writer::{LETTER_ROOM, write_letter};
 use entry_log::vector::Vector;
 use entry_log::waiting::Waiting;
+use letters::letter::Letter;
+use letters::writer::{LETTER_ROOM, write_letter};
 use std::alloc::Global;
 
 // How many of the cuts of some bytes are damaged.

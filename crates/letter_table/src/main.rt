@@ -7,10 +7,10 @@ mod ranges;
 
 use anyhow::anyhow;
 use bookings::entry::{Choice, Choices, Entry, Kind, Mark, Stay};
-use letters::letter::{Item, Letter};
-use letters::writer::{LETTER_ROOM, write_letter};
 use entry_log::vector::Vector;
 use entry_log::waiting::Waiting;
+use letters::letter::{Item, Letter};
+use letters::writer::{LETTER_ROOM, write_letter};
 use std::alloc::Global;
 
 // Hut 1 books 20 beds of hut 5 on night 9 for guest 7.

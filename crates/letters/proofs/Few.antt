@@ -1,12 +1,12 @@
 -- Whatever the bytes are, no more than 1,024 entries are heard.
-use Rattle.std.proofs.Common.{◌≡◌, ℕ, zero, suc, ◌+◌, ◌-◌, ◌<◌, ◌≤◌, Bool, true, false, cond, eqb, ltb, List, [], ◌∷◌, ◌++◌, map, length, get_or, take, drop, refl, arith, length-append}
+use Rattle.std.proofs.Common.{◌≡◌, ℕ, zero, suc, ◌+◌, ◌-◌, ◌≤◌, eqb, ltb, List, [], ◌∷◌, map, length, get_or, take, drop, refl, arith, length-append}
 use lib.ListN.{length-map}
 use Rattle.std.proofs.lemmas.Bool.{cond_both, ltb-false}
 use Rattle.bookings.specs.Plain.{PlainEntry}
 use Rattle.entry_log.specs.Waits.{PlainWaiting}
 use Rattle.letters.specs.Answers.{Answer, got, short, out}
 use Rattle.letters.specs.Format.{reads, read_two, read_four}
-use Rattle.letters.specs.Items.{PlainItem, waiting, placed_from, items_of}
+use Rattle.letters.specs.Items.{waiting, placed_from, items_of}
 use Rattle.letters.specs.Letters.{Heard, damaged, heard, number, from_tentative, read_tentative, from_committed, read_committed, read_placed, read_body, read_letter, read_waiting, signed}
 use Rattle.letters.specs.Rows.{Row, whole, stopped, torn, adds, row_after, read_row}
 

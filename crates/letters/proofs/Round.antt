@@ -1,5 +1,5 @@
 -- The parts of an entry, from the bytes up: each is read back, and found short where it is cut.
-use Rattle.std.proofs.Common.{◌≡◌, ℕ, ◌+◌, ◌-◌, ◌*◌, ◌/◌, ◌%◌, ◌^◌, ◌<◌, ltb, List, [], ◌∷◌, ◌++◌, length, sym, refl, ap, ◌∙◌, arith, le-ltb}
+use Rattle.std.proofs.Common.{◌≡◌, ℕ, ◌+◌, ◌*◌, ◌/◌, ◌%◌, ◌^◌, ◌<◌, ltb, List, [], ◌∷◌, ◌++◌, length, sym, refl, ap, ◌∙◌, arith, le-ltb}
 use borrow.Author.Tests.{lt-leb}
 use Rattle.std.specs.List.{flat_map}
 use Rattle.letters.specs.Answers.{got, read_times}

@@ -2,9 +2,9 @@
 #![tactic(auto)]
 
 use bookings::entry::Entry;
+use entry_log::waiting::Waiting;
 use letters::letter::{Item, Letter};
 use letters::writer::{LETTER_ROOM, write_letter};
-use entry_log::waiting::Waiting;
 use std::alloc::{AllocError, Global};
 
 // Opens a letter and goes over its entries: the sum of their stamps and of the first stamps that stood before them, and how many are kept out; 0 if it is damaged.

@@ -1,15 +1,14 @@
 -- The letter that is written is the one that the replica's parcel makes.
-use Rattle.std.proofs.Common.{◌≡◌, ℕ, ◌<◌, ◌≤◌, Bool, true, cond, eqb, List, [], ◌∷◌, map, length, take, drop, sym, refl, ap, ◌∙◌, subst, inl, inr, arith, length-drop, length-take}
+use Rattle.std.proofs.Common.{◌≡◌, ℕ, ◌<◌, ◌≤◌, cond, eqb, List, map, length, sym, ap, ◌∙◌, inl, inr, arith, length-drop, length-take}
 use lib.ListN.{length-map}
 use Rattle.std.proofs.lemmas.Bool.{cases_lt, eq-eqb, cond-true}
 use Rattle.bookings.specs.Plain.{PlainEntry, plain}
 use Rattle.bookings.specs.declared.entry.Entry.{Entry}
-use Rattle.entry_log.specs.Waits.{PlainWaiting, plain_waiting}
+use Rattle.entry_log.specs.Waits.{plain_waiting}
 use Rattle.entry_log.specs.declared.waiting.Waiting.{Waiting}
-use Rattle.letters.specs.Letters.{PlainLetter}
 use Rattle.letters.specs.Sent.{letter_of}
 use Rattle.replica.specs.Model.{State}
-use Rattle.replica.specs.Parcels.{PlainParcel, parcel_of, parcel_for}
+use Rattle.replica.specs.Parcels.{parcel_of, parcel_for}
 use Rattle.network.specs.Taking.{letter_for}
 
 -- behind the last committed entry there is none

@@ -3,6 +3,7 @@
 
 use play::play;
 use std::io::{BufRead, BufReader, BufWriter, Write};
+use std::process::ExitCode;
 
 mod play;
 mod say;
@@ -36,10 +37,12 @@ fn run(rt: &HostRuntime) -> anyhow::Result<()> {
     Ok(())
 }
 
-fn main(rt: HostRuntime) -> anyhow::Result<()> {
-    let done = run(&rt);
-    if let Err(why) = &done {
-        eprintln!(rt; "error: {why}")?;
+fn main(rt: HostRuntime) -> ExitCode {
+    match run(&rt) {
+        Ok(()) => ExitCode::SUCCESS,
+        Err(why) => {
+            let _ = eprintln!(rt; "error: {why}");
+            ExitCode::FAILURE
+        }
     }
-    done
 }

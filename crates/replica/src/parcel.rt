@@ -2,7 +2,7 @@
 ghost use Rattle.std.specs.Prelude.{◌≤◌, vec_capacity};
 
 use bookings::entry::Entry;
-use entry_log::waiting::Waiting;
+pub use entry_log::waiting::Waiting;
 
 mod fills;
 

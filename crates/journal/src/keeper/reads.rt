@@ -12,12 +12,12 @@ impl<J: Journal + Drop> Keeper<J> {
     // All that the replica knows is synced.
     pub fn sync(&mut self) -> Result<(), Fault>
         ensures kept { MatchResult result
-            (λ _. Moves keeps self.old self.new synced)
-            (λ _. Lasts keeps lasts self.old self.new) }
-        ensures clean { is_ok result ≡ true → clean self.new.journal ≡ true }
-        ensures shut { (shut self.new.journal ≡ not (is_ok result)) × (shut self.old.journal ≡ true → is_ok result ≡ false) }
-        ensures room { room self.old.journal ≤ room self.new.journal }
-        ensures sure { (k : Kept) → InStep keeps self.old k → 0 < room self.old.journal → is_ok result ≡ true }
+            (λ _. Moves J.keeps self.old self.new synced)
+            (λ _. Lasts J.keeps J.lasts self.old self.new) }
+        ensures clean { is_ok result ≡ true → J.clean self.new.journal ≡ true }
+        ensures shut { (J.shut self.new.journal ≡ not (is_ok result)) × (J.shut self.old.journal ≡ true → is_ok result ≡ false) }
+        ensures room { J.room self.old.journal ≤ J.room self.new.journal }
+        ensures sure { (k : Kept) → InStep J.keeps self.old k → 0 < J.room self.old.journal → is_ok result ≡ true }
         ensures replica { self.new.replica ≡ self.old.replica }
     {
         self.journal.sync()?;
@@ -26,7 +26,7 @@ impl<J: Journal + Drop> Keeper<J> {
 
     // The replica, to be shown and handed on: none where something of it is not synced.
     pub fn shown(&self) -> Option<&Replica>
-        ensures { MatchOption result (clean self.now.journal ≡ false) (λ p. (p.now ≡ self.now.replica) × (clean self.now.journal ≡ true)) }
+        ensures { MatchOption result (J.clean self.now.journal ≡ false) (λ p. (p.now ≡ self.now.replica) × (J.clean self.now.journal ≡ true)) }
     {
         if !self.journal.is_clean() {
             return None;

@@ -19,15 +19,15 @@ impl<J: Journal + Drop> Keeper<J> {
     pub fn take_tentative(&mut self, entry: Entry, stood: &Vector) -> Result<(), Trouble>
         ensures answer { MatchResult result
             (λ _. take_tentative_refusal (plain «entry») stood.now.stamps (state_by self.old) ≡ None)
-            (λ e. elim e [ Refused w ↦ take_tentative_refusal (plain «entry») stood.now.stamps (state_by self.old) ≡ Some (number_of w) | Failed f ↦ shut self.new.journal ≡ true ]) }
+            (λ e. elim e [ Refused w ↦ take_tentative_refusal (plain «entry») stood.now.stamps (state_by self.old) ≡ Some (number_of w) | Failed f ↦ J.shut self.new.journal ≡ true ]) }
         ensures kept { MatchResult result
-            (λ _. Moves keeps self.old self.new (takes_tentative (plain «entry») stood.now.stamps))
+            (λ _. Moves J.keeps self.old self.new (takes_tentative (plain «entry») stood.now.stamps))
             (λ e. elim e [
-              | Refused w ↦ Moves keeps self.old self.new (λ k. k)
-              | Failed f ↦ Lasts keeps lasts self.old self.new
+              | Refused w ↦ Moves J.keeps self.old self.new (λ k. k)
+              | Failed f ↦ Lasts J.keeps J.lasts self.old self.new
             ]) }
-        ensures room { room self.old.journal ≤ room self.new.journal }
-        ensures sure { (k : Kept) → InStep keeps self.old k → most_bytes < room self.old.journal → IfErr result (λ e. elim e [ Refused w ↦ Unit {0} | Failed f ↦ ⊥ ]) }
+        ensures room { J.room self.old.journal ≤ J.room self.new.journal }
+        ensures sure { (k : Kept) → InStep J.keeps self.old k → most_bytes < J.room self.old.journal → IfErr result (λ e. elim e [ Refused w ↦ Unit {0} | Failed f ↦ ⊥ ]) }
     {
         match self.replica.take_tentative(entry, stood) {
             Ok(()) => {}
@@ -43,15 +43,15 @@ impl<J: Journal + Drop> Keeper<J> {
     pub fn take_committed(&mut self, place: usize, entry: Entry) -> Result<(), Trouble>
         ensures answer { MatchResult result
             (λ _. take_committed_refusal place (plain «entry»).mark (state_by self.old) ≡ None)
-            (λ e. elim e [ Refused w ↦ take_committed_refusal place (plain «entry»).mark (state_by self.old) ≡ Some (number_of w) | Failed f ↦ shut self.new.journal ≡ true ]) }
+            (λ e. elim e [ Refused w ↦ take_committed_refusal place (plain «entry»).mark (state_by self.old) ≡ Some (number_of w) | Failed f ↦ J.shut self.new.journal ≡ true ]) }
         ensures kept { MatchResult result
-            (λ _. Moves keeps self.old self.new (takes_committed place (plain «entry»)))
+            (λ _. Moves J.keeps self.old self.new (takes_committed place (plain «entry»)))
             (λ e. elim e [
-              | Refused w ↦ Moves keeps self.old self.new (λ k. k)
-              | Failed f ↦ Lasts keeps lasts self.old self.new
+              | Refused w ↦ Moves J.keeps self.old self.new (λ k. k)
+              | Failed f ↦ Lasts J.keeps J.lasts self.old self.new
             ]) }
-        ensures room { room self.old.journal ≤ room self.new.journal }
-        ensures sure { (k : Kept) → InStep keeps self.old k → most_bytes < room self.old.journal → IfErr result (λ e. elim e [ Refused w ↦ Unit {0} | Failed f ↦ ⊥ ]) }
+        ensures room { J.room self.old.journal ≤ J.room self.new.journal }
+        ensures sure { (k : Kept) → InStep J.keeps self.old k → most_bytes < J.room self.old.journal → IfErr result (λ e. elim e [ Refused w ↦ Unit {0} | Failed f ↦ ⊥ ]) }
     {
         match self.replica.take_committed(place, entry) {
             Ok(()) => {}

@@ -22,11 +22,11 @@ use bookings::entry::{Entry, Kind, Mark};
 impl<J: Journal + Drop> Keeper<J> {
     // Writes a record behind the others.
     pub(crate) fn append(&mut self, record: &Record) -> Result<(), Fault>
-        ensures keeps { (bs : List ℕ) (n : ℕ) → is_ok result ≡ true → keeps self.old.journal bs n → keeps self.new.journal (bs ++ encode_record (plain_record «record».now)) n }
-        ensures lasts { (bs : List ℕ) → lasts self.old.journal bs → lasts self.new.journal bs }
-        ensures room { room self.old.journal ≤ room self.new.journal }
-        ensures sure { (bs : List ℕ) (n : ℕ) → keeps self.old.journal bs n → length bs + length (encode_record (plain_record «record».now)) < room self.old.journal → is_ok result ≡ true }
-        ensures shut { (shut self.new.journal ≡ not (is_ok result)) × (shut self.old.journal ≡ true → is_ok result ≡ false) }
+        ensures keeps { (bs : List ℕ) (n : ℕ) → is_ok result ≡ true → J.keeps self.old.journal bs n → J.keeps self.new.journal (bs ++ encode_record (plain_record «record».now)) n }
+        ensures lasts { (bs : List ℕ) → J.lasts self.old.journal bs → J.lasts self.new.journal bs }
+        ensures room { J.room self.old.journal ≤ J.room self.new.journal }
+        ensures sure { (bs : List ℕ) (n : ℕ) → J.keeps self.old.journal bs n → length bs + length (encode_record (plain_record «record».now)) < J.room self.old.journal → is_ok result ≡ true }
+        ensures shut { (J.shut self.new.journal ≡ not (is_ok result)) × (J.shut self.old.journal ≡ true → is_ok result ≡ false) }
         ensures fits { EntryOk (entry_of (plain_record «record».now)) }
         ensures replica { self.new.replica ≡ self.old.replica }
     {
@@ -37,11 +37,11 @@ impl<J: Journal + Drop> Keeper<J> {
 
     // Writes a record, and syncs it.
     fn append_synced(&mut self, record: &Record) -> Result<(), Fault>
-        ensures keeps { (bs : List ℕ) (n : ℕ) → is_ok result ≡ true → keeps self.old.journal bs n → keeps self.new.journal (bs ++ encode_record (plain_record «record».now)) (length (bs ++ encode_record (plain_record «record».now))) }
-        ensures lasts { (bs : List ℕ) → lasts self.old.journal bs → lasts self.new.journal bs }
-        ensures room { room self.old.journal ≤ room self.new.journal }
-        ensures sure { (bs : List ℕ) (n : ℕ) → keeps self.old.journal bs n → length bs + length (encode_record (plain_record «record».now)) < room self.old.journal → is_ok result ≡ true }
-        ensures shut { (shut self.new.journal ≡ not (is_ok result)) × (shut self.old.journal ≡ true → is_ok result ≡ false) }
+        ensures keeps { (bs : List ℕ) (n : ℕ) → is_ok result ≡ true → J.keeps self.old.journal bs n → J.keeps self.new.journal (bs ++ encode_record (plain_record «record».now)) (length (bs ++ encode_record (plain_record «record».now))) }
+        ensures lasts { (bs : List ℕ) → J.lasts self.old.journal bs → J.lasts self.new.journal bs }
+        ensures room { J.room self.old.journal ≤ J.room self.new.journal }
+        ensures sure { (bs : List ℕ) (n : ℕ) → J.keeps self.old.journal bs n → length bs + length (encode_record (plain_record «record».now)) < J.room self.old.journal → is_ok result ≡ true }
+        ensures shut { (J.shut self.new.journal ≡ not (is_ok result)) × (J.shut self.old.journal ≡ true → is_ok result ≡ false) }
         ensures fits { EntryOk (entry_of (plain_record «record».now)) }
         ensures replica { self.new.replica ≡ self.old.replica }
     {
@@ -54,15 +54,15 @@ impl<J: Journal + Drop> Keeper<J> {
     pub fn make(&mut self, kind: Kind) -> Result<Mark, Trouble>
         ensures answer { MatchResult result
             (λ m. (make_refusal (plain_kind kind) (state_by self.old) ≡ None) × (plain_mark m ≡ next_mark (state_by self.old)))
-            (λ e. elim e [ Refused w ↦ make_refusal (plain_kind kind) (state_by self.old) ≡ Some (number_of w) | Failed f ↦ shut self.new.journal ≡ true ]) }
+            (λ e. elim e [ Refused w ↦ make_refusal (plain_kind kind) (state_by self.old) ≡ Some (number_of w) | Failed f ↦ J.shut self.new.journal ≡ true ]) }
         ensures kept { MatchResult result
-            (λ _. Moves keeps self.old self.new (λ k. synced (makes (plain_kind kind) k)))
+            (λ _. Moves J.keeps self.old self.new (λ k. synced (makes (plain_kind kind) k)))
             (λ e. elim e [
-              | Refused w ↦ Moves keeps self.old self.new (λ k. k)
-              | Failed f ↦ Lasts keeps lasts self.old self.new
+              | Refused w ↦ Moves J.keeps self.old self.new (λ k. k)
+              | Failed f ↦ Lasts J.keeps J.lasts self.old self.new
             ]) }
-        ensures room { room self.old.journal ≤ room self.new.journal }
-        ensures sure { (k : Kept) → InStep keeps self.old k → most_bytes < room self.old.journal → IfErr result (λ e. elim e [ Refused w ↦ Unit {0} | Failed f ↦ ⊥ ]) }
+        ensures room { J.room self.old.journal ≤ J.room self.new.journal }
+        ensures sure { (k : Kept) → InStep J.keeps self.old k → most_bytes < J.room self.old.journal → IfErr result (λ e. elim e [ Refused w ↦ Unit {0} | Failed f ↦ ⊥ ]) }
     {
         let mark = match self.replica.make(kind) {
             Ok(mark) => mark,
@@ -78,17 +78,17 @@ impl<J: Journal + Drop> Keeper<J> {
     pub fn commit(&mut self) -> Result<Option<Mark>, Trouble>
         ensures answer { MatchResult result
             (λ m. (is_primary (state_by self.old) ≡ true) × (option_map plain_mark m ≡ first_mark (state_by self.old).log.tentative))
-            (λ e. elim e [ Refused w ↦ (is_primary (state_by self.old) ≡ false) × (number_of w ≡ 6) | Failed f ↦ shut self.new.journal ≡ true ]) }
+            (λ e. elim e [ Refused w ↦ (is_primary (state_by self.old) ≡ false) × (number_of w ≡ 6) | Failed f ↦ J.shut self.new.journal ≡ true ]) }
         ensures kept { MatchResult result
             (λ m. MatchOption m
-            (Moves keeps self.old self.new commits)
-            (λ _. Moves keeps self.old self.new (λ k. synced (commits k))))
+            (Moves J.keeps self.old self.new commits)
+            (λ _. Moves J.keeps self.old self.new (λ k. synced (commits k))))
             (λ e. elim e [
-              | Refused w ↦ Moves keeps self.old self.new (λ k. k)
-              | Failed f ↦ Lasts keeps lasts self.old self.new
+              | Refused w ↦ Moves J.keeps self.old self.new (λ k. k)
+              | Failed f ↦ Lasts J.keeps J.lasts self.old self.new
             ]) }
-        ensures room { room self.old.journal ≤ room self.new.journal }
-        ensures sure { (k : Kept) → InStep keeps self.old k → most_bytes < room self.old.journal → IfErr result (λ e. elim e [ Refused w ↦ Unit {0} | Failed f ↦ ⊥ ]) }
+        ensures room { J.room self.old.journal ≤ J.room self.new.journal }
+        ensures sure { (k : Kept) → InStep J.keeps self.old k → most_bytes < J.room self.old.journal → IfErr result (λ e. elim e [ Refused w ↦ Unit {0} | Failed f ↦ ⊥ ]) }
     {
         let next = self.replica.first_tentative();
         match self.replica.commit() {

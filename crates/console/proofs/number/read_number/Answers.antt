@@ -1,4 +1,4 @@
-use Rattle.std.proofs.Common.{◌-◌, sym, ◌∙◌, arith}
+use Rattle.std.proofs.Common.{sym, ◌∙◌, arith}
 use Rattle.console.proofs.Digits.{digits_bad, digits_on, digits_end, number_from_digits, ten_times_more}
 use Rattle.console.proofs.number.read_number.Goals as goal
 

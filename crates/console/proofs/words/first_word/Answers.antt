@@ -1,4 +1,4 @@
-use Rattle.std.proofs.Common.{◌-◌, ◌<◌, ◌≤◌, length, arith, length-drop, length-take, rules}
+use Rattle.std.proofs.Common.{◌<◌, ◌≤◌, length, arith, length-drop, length-take, rules}
 use Rattle.std.proofs.lemmas.List.{take_rest}
 use Rattle.console.proofs.WordBounds.{no_word, first_of_line}
 use Rattle.console.proofs.words.first_word.Goals as goal

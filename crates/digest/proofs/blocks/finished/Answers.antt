@@ -5,4 +5,4 @@ use Rattle.digest.proofs.Padding.{cut_digest}
 use Rattle.digest.proofs.blocks.finished.Goals as goal
 
 pub returns : goal.returns
-returns c = λ m cut h. c.to-bytes.ensures ∙ ap (flat_map bytes4) c.last-blocks.ensures ∙ cut_digest m _ _ _ cut (omega arith)
+returns c = λ m cut h. c.to_bytes.ensures ∙ ap (flat_map bytes4) c.last_blocks.ensures ∙ cut_digest m _ _ _ cut (omega arith)

@@ -4,9 +4,9 @@ use Rattle.digest.proofs.blocks.last_blocks.Goals as goal
 
 pub returns-then-fits : goal.returns-then-fits
 returns-then-fits c =
-    rw (c.with-length.ensures, c.end-marked-block.ensures) at c.compress.ensures ∙ one_last_block _ _ _ (omega arith)
+    rw (c.with_length.ensures, c.end_marked-block.ensures) at c.compress.ensures ∙ one_last_block _ _ _ (omega arith)
 
 pub returns-else-fits : goal.returns-else-fits
 returns-else-fits c =
-    rw (c.with-length-else-fits.ensures, c.compress-else-fits.ensures, c.end-marked-block.ensures) at c.compress-else-fits-2.ensures
+    rw (c.with_length-else-fits.ensures, c.compress-else-fits.ensures, c.end_marked-block.ensures) at c.compress-else-fits-2.ensures
     ∙ two_last_blocks _ _ _ (omega arith) c.requires

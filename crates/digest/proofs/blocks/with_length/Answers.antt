@@ -5,4 +5,4 @@ use Rattle.digest.proofs.blocks.with_length.Goals as goal
 
 pub returns : goal.returns
 unfolding bytes8
-returns c = with_length_is _ _ (bytes8 c.args.bits) (omega arith) (c.copy-from-slice.ensures.after ∙ c.to-be-bytes.ensures)
+returns c = with_length_is _ _ (bytes8 c.args.bits) (omega arith) (c.copy_from_slice.ensures.after ∙ c.to_be_bytes.ensures)

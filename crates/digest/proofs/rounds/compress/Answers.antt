@@ -7,6 +7,6 @@ pub returns : goal.returns
 returns c =
     let s = c.args.state in
     let block = c.args.block.now in
-    let along = c.early-rounds-early.ensures block (along_none block s _ c.block-words-w.ensures) in
+    let along = c.early_rounds-early.ensures block (along_none block s _ c.block_words-w.ensures) in
     let all = along_all block s _ _ (omega arith) along in
-    c.added.ensures ∙ ap (λ x. sums x s) (c.late-rounds.ensures s all.0 ∙ ap (rounds 64 s) all.1)
+    c.added.ensures ∙ ap (λ x. sums x s) (c.late_rounds.ensures s all.0 ∙ ap (rounds 64 s) all.1)

@@ -7,7 +7,7 @@ loop-i-init c = (omega arith, λ block along. along)
 pub loop-i-preserved : goal.loop-i-preserved
 loop-i-preserved c =
     let up : 4 * c.loop-i.i + 4 ≡ 4 * (c.loop-i.i + 1) = omega arith in
-    (omega arith, λ block along. rw up at (c.four-early-next.ensures block c.args.state (c.loop-i.invariant.1 block along)))
+    (omega arith, λ block along. rw up at (c.four_early-next.ensures block c.args.state (c.loop-i.invariant.1 block along)))
 
 pub returns : goal.returns
 returns c = λ block along.

@@ -8,7 +8,7 @@ unfolding words
 loop-t-init c = refl
 
 pub loop-t-preserved : goal.loop-t-preserved
-loop-t-preserved c = rw c.loop-t.invariant (word_stored c.args.block.now c.loop-t.t _ c.loop-t-test.true c.word-at.ensures)
+loop-t-preserved c = rw c.loop-t.invariant (word_stored c.args.block.now c.loop-t.t _ c.loop-t-test.true c.word_at.ensures)
 
 pub returns : goal.returns
 returns c =

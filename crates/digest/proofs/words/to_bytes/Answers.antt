@@ -7,8 +7,8 @@ use Rattle.digest.proofs.words.to_bytes.Goals as goal
 pub loop-i-preserved : goal.loop-i-preserved
 unfolding bytes4
 loop-i-preserved c =
-    let stored = bytes_stored c.loop-i.out c.copy-from-slice.new.self c.args.state c.loop-i.i (omega arith) (omega arith) c.loop-i.invariant.1
-    (c.copy-from-slice.ensures.after ∙ c.to-be-bytes.ensures) in
+    let stored = bytes_stored c.loop-i.out c.copy_from_slice.new.self c.args.state c.loop-i.i (omega arith) (omega arith) c.loop-i.invariant.1
+    (c.copy_from_slice.ensures.after ∙ c.to_be_bytes.ensures) in
     (omega (arith, stored.0), stored.1)
 
 pub returns : goal.returns

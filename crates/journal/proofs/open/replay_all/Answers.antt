@@ -1,4 +1,4 @@
-use Rattle.std.proofs.Common.{◌≡◌, ℕ, ◌-◌, ◌≤◌, length, sym, refl, ap, subst}
+use Rattle.std.proofs.Common.{ℕ, ◌-◌, ◌≤◌, length, sym, refl, ap, subst}
 use Rattle.replica.specs.Views.{state_of}
 use Rattle.bookings.specs.Refusals.{number_of}
 use Rattle.journal.specs.Views.{plain_record}

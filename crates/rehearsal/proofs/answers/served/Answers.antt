@@ -1,4 +1,4 @@
-use Rattle.std.proofs.Common.{◌≡◌, sym, refl, ap, ◌∙◌}
+use Rattle.std.proofs.Common.{sym, refl, ap, ◌∙◌}
 use Rattle.replica.specs.Model.{serves, slip_after}
 use Rattle.replica.specs.Views.{state_of}
 use Rattle.rehearsal.proofs.answers.served.Goals as goal

@@ -7,7 +7,7 @@ use Rattle.console.proofs.request.RawChoices.wanted.Goals as goal
 
 pub returns-in_err-wanted : goal.returns-in_err-wanted
 returns-in_err-wanted c =
-    let p = err_from_is_err_and c.from-residual.result c.from-residual.ensures.1 in
+    let p = err_from_is_err_and c.from_residual.result c.from_residual.ensures.1 in
     rw (p.1, p.2) (
       c.in_err-wanted.ensures.0,
       λ fine.

@@ -6,7 +6,7 @@ use Rattle.journal.proofs.keeper.Keeper.sync.Goals as goal
 
 pub returns-in_err-sync : goal.returns-in_err-sync
 returns-in_err-sync g c =
-    let p = err_from_is_err_and c.from-residual.result c.from-residual.ensures.1 in
+    let p = err_from_is_err_and c.from_residual.result c.from_residual.ensures.1 in
     rw p.1
     (record {
       kept = λ k in_step. c.in_err-sync.ensures.lasts _ (durable_lasts _ (g.J.Journal.lasts c.args.self.now.journal) (state_of c.args.self.now.replica) k in_step (g.met.J.Journal.lasting c.args.self.now.journal));

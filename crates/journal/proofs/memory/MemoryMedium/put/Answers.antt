@@ -1,4 +1,4 @@
-use Rattle.std.proofs.Common.{vec_items, refl, arith, rules}
+use Rattle.std.proofs.Common.{vec_items, refl, rules}
 use Rattle.journal.proofs.Parts.{first_stays}
 use Rattle.journal.proofs.memory.MemoryMedium.put.Goals as goal
 

@@ -27,7 +27,7 @@ loop-stamp-preserved c =
     let is : stamp ≡ get_or all i 0 = ap (λ xs. get_or xs i 0) c.stamps-stamp-items.ensures in (
       writes_more four (λ n. n) c.args.out.now all c.loop-stamp.out c.put.new.out i 0 stamp within is c.loop-stamp.invariant.0
           (written_as c.loop-stamp.out c.put.new.out _ (four stamp) c.to_be_bytes.ensures c.put.ensures),
-      holds_more (λ n. n < 2 ^ 32) (λ n. n) all i 0 stamp within is c.loop-stamp.invariant.1 c.loop-stamp-test.element-fits.fits,
+      holds_more (λ n. n < 2 ^ 32) (λ n. n) all i 0 stamp within is c.loop-stamp.invariant.1 c.loop-stamp-test.element_fits.fits,
     )
 
 pub returns : goal.returns

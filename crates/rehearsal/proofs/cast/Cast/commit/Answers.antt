@@ -1,8 +1,7 @@
-use Rattle.std.proofs.Common.{◌≡◌, vec_items, sym, ap, ◌∙◌, rules}
+use Rattle.std.proofs.Common.{vec_items, sym, ap, ◌∙◌, rules}
 use Rattle.std.proofs.lemmas.Result.{MatchResult-weaker}
 use Rattle.entry_log.specs.Logs.{first_mark}
-use Rattle.replica.specs.Model.{State, commits, is_primary}
-use Rattle.rehearsal.specs.Scenes.{Scene}
+use Rattle.replica.specs.Model.{commits, is_primary}
 use Rattle.rehearsal.proofs.Placed.{state_at, changed, unchanged}
 use Rattle.rehearsal.proofs.cast.Cast.commit.Goals as goal
 
@@ -10,9 +9,9 @@ pub returns : goal.returns
 returns c =
     let ps = vec_items c.args.self.now.replicas in
     let i = c.args.self.now.current in
-    let p = c.index-mut.result.now in
+    let p = c.index_mut.result.now in
     let q = c.commit.new.self in
-    let here = c.index-mut.ensures.value in
+    let here = c.index_mut.ensures.value in
     let was = sym (state_at ps i p (search rules) here) in
     MatchResult-weaker c.commit.result c.commit.ensures
     (λ m done. (

@@ -1,8 +1,7 @@
-use Rattle.std.proofs.Common.{◌≡◌, vec_items, sym, ap, ◌∙◌, rules}
+use Rattle.std.proofs.Common.{vec_items, sym, ap, ◌∙◌, rules}
 use Rattle.std.proofs.lemmas.Result.{MatchResult-weaker}
 use Rattle.bookings.specs.Plain.{plain_kind}
-use Rattle.replica.specs.Model.{State, made, next_mark, make_refusal}
-use Rattle.rehearsal.specs.Scenes.{Scene}
+use Rattle.replica.specs.Model.{made, next_mark, make_refusal}
 use Rattle.rehearsal.proofs.Placed.{state_at, changed, unchanged}
 use Rattle.rehearsal.proofs.cast.Cast.make.Goals as goal
 
@@ -10,10 +9,10 @@ pub returns : goal.returns
 returns c =
     let ps = vec_items c.args.self.now.replicas in
     let i = c.args.self.now.current in
-    let p = c.index-mut.result.now in
+    let p = c.index_mut.result.now in
     let q = c.make.new.self in
     let k = plain_kind c.args.kind in
-    let here = c.index-mut.ensures.value in
+    let here = c.index_mut.ensures.value in
     let was = sym (state_at ps i p (search rules) here) in
     MatchResult-weaker c.make.result c.make.ensures
     (λ m done. (

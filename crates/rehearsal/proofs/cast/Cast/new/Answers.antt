@@ -1,8 +1,7 @@
-use Rattle.std.proofs.Common.{◌≡◌, ℕ, ◌≤◌, List, map, length, get_or, take, vec_items, sym, ap, ◌∙◌, arith, rules, below_more}
+use Rattle.std.proofs.Common.{◌≤◌, List, map, length, vec_items, ap, ◌∙◌, arith, rules, below_more}
 use Rattle.std.proofs.lemmas.List.{take_all}
 use Rattle.replica.specs.Model.{State, fresh}
 use Rattle.replica.specs.Views.{state_of}
-use Rattle.rehearsal.specs.Scenes.{Scene}
 use Rattle.rehearsal.proofs.Huts.{can_join, joined_states, joined_differs, still_unmade}
 use Rattle.rehearsal.proofs.cast.Cast.new.Goals as goal
 

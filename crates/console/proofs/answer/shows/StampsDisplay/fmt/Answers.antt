@@ -10,7 +10,7 @@ loop-stamp-preserved g c = λ plain.
     let before = c.loop-stamp.invariant plain in
     put_stamp g.W.Write.write_str_gives c.args.f.now c.loop-stamp.f c.write.new.self c.stamps-stamps.result c.loop-stamp.stamp-index
     (omega (arith, c.loop-stamp-test.true, ap length c.stamps-stamps.ensures, c.args.self.now.vector.sixteen)) before
-    (c.in_ok-write.ensures.shows before.plain (refl {a = true}))
+    (c.in_ok-write.ensures.writes before.plain (refl {a = true}))
 
 pub returns-clause-writes : goal.returns-clause-writes
 returns-clause-writes g c = λ plain ok.

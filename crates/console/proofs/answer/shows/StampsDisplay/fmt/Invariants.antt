@@ -1,4 +1,4 @@
-use Rattle.std.proofs.Common.{◌≡◌, map, take}
+use Rattle.std.proofs.Common.{take}
 use Rattle.std.specs.Fmt.{IsPlainFormatter, HasWritten}
 use Rattle.console.specs.Answers.{stamps_text}
 use Rattle.console.proofs.answer.shows.StampsDisplay.fmt.Given as goal

@@ -1,4 +1,4 @@
-use Rattle.std.proofs.Common.{◌≡◌, ℕ, ◌-◌, ◌<◌, true, length, is_ok, Ok, Err, vec_capacity, Result, sym, refl, ap, ◌∙◌, subst, arith, MatchResult}
+use Rattle.std.proofs.Common.{◌≡◌, ◌-◌, ◌<◌, true, length, is_ok, Ok, Err, vec_capacity, Result, sym, ap, ◌∙◌, subst, arith, MatchResult}
 use Rattle.std.proofs.lemmas.Bool.{false≢true}
 use Rattle.replica.specs.Model.{State}
 use Rattle.replica.specs.Views.{state_of}
