@@ -1,7 +1,8 @@
-use Rattle.std.proofs.Common.{◌≡◌, ◌-◌, ◌≤◌, map, length, take, drop, sym, refl, ap, ◌∙◌, arith, length-take}
+use Rattle.std.proofs.Common.{◌≡◌, ◌-◌, map, length, take, drop, vec_items, vec_len, sym, refl, ap, ◌∙◌, arith, length-take}
 use lib.ListN.{length-map}
 use Rattle.std.proofs.lemmas.List.{take-map, drop-map}
 use Rattle.bookings.specs.Plain.{plain}
+use Rattle.entry_log.specs.Waits.{plain_waiting}
 use Rattle.replica.specs.Parcels.{missing, parcel_of}
 use Rattle.replica.proofs.parcel.Parcel.fill.Goals as goal
 
@@ -16,7 +17,7 @@ returns c =
     let front : map plain (take 1024 (drop c.args.from c.args.committed.now)) ≡ take 1024 (drop c.args.from cs) =
     sym (take-map plain 1024 (drop c.args.from c.args.committed.now)) ∙ ap (take 1024) (sym (drop-map plain c.args.from c.args.committed.now)) in
     let settled = ap (map plain) c.gather_committed.ensures.items ∙ front in
-    let count : c.len-room.result ≡ length (take 1024 (drop c.args.from cs)) =
-    c.len-room.ensures ∙ c.gather_committed.new.out.ok.0 ∙ ap length c.gather_committed.ensures.items ∙ sym (length-map (take 1024 (drop c.args.from c.args.committed.now)) plain) ∙ ap length front in
-    let rest = c.gather_tentative.ensures.items ∙ ap (λ n. take (1024 - n) (missing c.args.has.now.stamps cs (map plain c.args.tentative.now))) count in
+    let count : vec_len c.gather_committed.new.out ≡ length (take 1024 (drop c.args.from cs)) =
+    c.gather_committed.new.out.ok.0 ∙ ap length c.gather_committed.ensures.items ∙ sym (length-map (take 1024 (drop c.args.from c.args.committed.now)) plain) ∙ ap length front in
+    let rest : map plain_waiting (vec_items c.gather_tentative.new.out) ≡ take (1024 - length (take 1024 (drop c.args.from cs))) (missing c.args.has.now.stamps cs (map plain c.args.tentative.now)) = cc in
     rw (settled, rest) refl

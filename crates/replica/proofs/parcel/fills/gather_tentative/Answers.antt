@@ -1,9 +1,9 @@
-use Rattle.std.proofs.Common.{◌≡◌, ◌-◌, ◌<◌, ◌≤◌, [], ◌∷◌, ◌++◌, map, length, take, vec_items, sym, refl, ap, ◌∙◌, arith}
+use Rattle.std.proofs.Common.{◌-◌, ◌<◌, ◌≤◌, [], ◌++◌, map, length, take, vec_items, sym, refl, ap, ◌∙◌, arith}
 use lib.ListN.{length-map}
 use Rattle.std.proofs.lemmas.List.{append-nil}
-use Rattle.bookings.specs.Plain.{plain, plain_mark}
+use Rattle.bookings.specs.Plain.{plain}
 use Rattle.entry_log.proofs.Views.{entry_there}
-use Rattle.entry_log.specs.Vectors.{vector_of, noted}
+use Rattle.entry_log.specs.Vectors.{vector_of}
 use Rattle.replica.proofs.Filling.{front_more, gather_step, gather_end}
 use Rattle.replica.proofs.Making.{vector_push}
 use Rattle.replica.specs.Parcels.{missing}
@@ -33,9 +33,10 @@ loop-entry-preserved c =
     let there : i < length c.args.entries.now = omega arith in
     let within : i < length xs = simp length-map there in
     let is = sym (entry_there c.args.entries.now i e (plain e) there c.entry-item.is) in
-    let has = c.args.has.now.stamps in (
+    let has = c.args.has.now.stamps in
+    let grown = ap vector_of (front_more has c.args.room before xs i (plain e) within is) ∙ vector_push (before ++ take i xs) (plain e) e.mark.hut_ok in (
       gather_step has c.args.room before xs i (plain e) _ (map plain_waiting (vec_items c.loop-entry.out)) _ _ within is c.loop-entry.invariant.1 c.offer.ensures.items c.loop-entry.invariant.0,
-      c.note.ensures ∙ ap (noted (plain_mark e.mark)) c.loop-entry.invariant.1 ∙ sym (ap vector_of (front_more has c.args.room before xs i (plain e) within is) ∙ vector_push (before ++ take i xs) (plain e) e.mark.hut_ok),
+      cc,
       c.offer.ensures.capacity ∙ c.loop-entry.invariant.2,
     )
 

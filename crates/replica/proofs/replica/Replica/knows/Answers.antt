@@ -1,4 +1,3 @@
-use Rattle.std.proofs.Common.{is_some, ap, ◌∙◌}
 use Rattle.bookings.specs.Plain.{plain_mark}
 use Rattle.entry_log.proofs.Known.{has_found}
 use Rattle.entry_log.specs.Logs.{all_of}
@@ -6,4 +5,4 @@ use Rattle.entry_log.specs.Views.{log_in}
 use Rattle.replica.proofs.replica.Replica.knows.Goals as goal
 
 pub returns : goal.returns
-returns c = c.is_some.ensures ∙ ap is_some c.find.ensures ∙ has_found (plain_mark c.args.mark.now) 0 (all_of (log_in c.args.self.now.log))
+returns c = let found = has_found (plain_mark c.args.mark.now) 0 (all_of (log_in c.args.self.now.log)) in cc
