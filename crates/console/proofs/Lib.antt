@@ -1,6 +1,9 @@
 pub mod DecimalWords
 pub mod Digits
 pub mod FoursOn
+pub mod HexBack
+pub mod HexOn
+pub mod HexText
 pub mod InRange
 pub mod NumbersOn
 pub mod Pieces

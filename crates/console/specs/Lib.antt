@@ -2,6 +2,7 @@ pub mod Answers
 pub mod Checks
 pub mod Commands
 pub mod Digits
+pub mod Hexes
 pub mod Lines
 pub mod Numbers
 pub mod Requests

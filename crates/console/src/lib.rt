@@ -4,6 +4,7 @@
 pub mod answer;
 pub mod command;
 mod forms;
+pub mod hex;
 pub mod laws;
 pub mod line;
 mod number;

@@ -1,0 +1,55 @@
+// The bytes that hexadecimal digits write.
+ghost use Rattle.std.specs.Prelude.{◌≡◌, ◌+◌, ◌<◌, ◌≤◌, true, ◌++◌, length, vec_len, vec_capacity, MatchResult};
+ghost use Rattle.console.specs.Hexes.{is_digit, value_of, bytes_of};
+
+use super::Hex;
+
+// The room that a buffer has does not suffice.
+#[derive(Clone, Copy)]
+pub struct NoRoom;
+
+impl Hex<'_> {
+    // How many bytes they are.
+    pub fn len(self) -> usize
+        ensures { result ≡ length (bytes_of self.entry.digits.now) }
+    {
+        self.digits.len() / 2
+    }
+
+    // Puts the bytes behind those of a buffer, into its reserved room. Where that does not suffice, nothing changes.
+    pub fn decode(self, out: &mut Vec<u8>) -> Result<(), NoRoom>
+        ensures items { MatchResult result
+            (λ _. out.new.items ≡ out.old.items ++ bytes_of self.entry.digits.now)
+            (λ _. out.new ≡ out.old) }
+        ensures room { MatchResult result
+            (λ _. vec_len out.old + length (bytes_of self.entry.digits.now) ≤ vec_capacity out.old)
+            (λ _. vec_capacity out.old < vec_len out.old + length (bytes_of self.entry.digits.now)) }
+        ensures capacity { vec_capacity out.new ≡ vec_capacity out.old }
+    {
+        let digits = self.digits;
+        let count = self.len();
+        if out.capacity() - out.len() < count {
+            return Err(NoRoom);
+        }
+        for i in 0..count {
+            let high = value(digits[2 * i]);
+            let low = value(digits[2 * i + 1]);
+            out.push_reserved(high * 16 + low);
+        }
+        Ok(())
+    }
+}
+
+fn value(digit: u8) -> u8
+    requires { is_digit digit ≡ true }
+    ensures value { result ≡ value_of digit }
+    ensures small { result < 16 }
+{
+    if digit <= b'9' {
+        digit - b'0'
+    } else if digit <= b'F' {
+        digit - b'A' + 10
+    } else {
+        digit - b'a' + 10
+    }
+}

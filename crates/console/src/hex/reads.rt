@@ -1,0 +1,46 @@
+// Which words are hexadecimal digits.
+ghost use Rattle.std.specs.Prelude.{◌≡◌, true, []};
+ghost use Rattle.console.specs.Hexes.{is_digit, all_digits, is_hex};
+
+use super::Hex;
+
+impl<'a> Hex<'a> {
+    // No digits.
+    pub fn none() -> Hex<'a>
+        ensures { result.digits.now ≡ [] }
+    {
+        Hex { digits: b"" }
+    }
+
+    // The digits of a word.
+    pub fn of(word: &'a [u8]) -> Hex<'a>
+        requires { is_hex word.now ≡ true }
+        ensures { result.digits.now ≡ word.now }
+    {
+        Hex { digits: word }
+    }
+
+    // Two digits to a byte.
+    pub fn fits(word: &[u8]) -> bool
+        ensures { result ≡ is_hex word.now }
+    {
+        word.len() % 2 == 0 && all_digits(word)
+    }
+}
+
+fn all_digits(word: &[u8]) -> bool
+    ensures { result ≡ all_digits word.now }
+{
+    for b in word {
+        if !is_digit(*b) {
+            return false;
+        }
+    }
+    true
+}
+
+fn is_digit(b: u8) -> bool
+    ensures { result ≡ is_digit b }
+{
+    b >= b'0' && b <= b'9' || b >= b'A' && b <= b'F' || b >= b'a' && b <= b'f'
+}
