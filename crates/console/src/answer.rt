@@ -4,6 +4,7 @@ use bookings::refusal::Refusal;
 use entry_log::vector::Vector;
 
 mod kinds;
+pub mod letter;
 mod shows;
 
 #[derive(Clone, Copy)]
