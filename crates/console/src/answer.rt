@@ -5,7 +5,9 @@ use entry_log::vector::Vector;
 
 mod kinds;
 pub mod letter;
+pub mod letters;
 mod shows;
+pub mod starts;
 
 #[derive(Clone, Copy)]
 pub enum Answer {

@@ -118,7 +118,7 @@ impl fmt::Display for KindName {
     }
 }
 
-fn number(why: Refusal) -> u8
+pub(crate) fn number(why: Refusal) -> u8
     ensures { result ≡ number_of why }
 {
     match why {
@@ -136,8 +136,8 @@ fn number(why: Refusal) -> u8
 
 // Why something is refused, in words.
 #[derive(Clone, Copy)]
-struct Reason {
-    why: Refusal,
+pub(crate) struct Reason {
+    pub(crate) why: Refusal,
 }
 
 impl fmt::Display for Reason {

@@ -1,0 +1,45 @@
+// What befalls letters, and the entries in them.
+use bookings::refusal::Refusal;
+
+mod shows;
+
+// A letter by its number, counted from 1.
+#[derive(Clone, Copy)]
+pub enum Carried {
+    Walked { letter: u64, from: u8, to: u8 },
+    Lost { letter: u64, from: u8, to: u8 },
+    // It came once more, or late.
+    Again { letter: u64, to: u8 },
+    // Only its first bytes came.
+    Cut { letter: u64, bytes: u64, to: u8 },
+}
+
+#[derive(Clone, Copy)]
+pub enum Taking {
+    // The entry with that mark is taken.
+    Committed {
+        stamp: u32,
+        hut: u8,
+        place: usize,
+    },
+    Tentative {
+        stamp: u32,
+        hut: u8,
+    },
+    // It is skipped, by that refusal.
+    Skipped {
+        why: Refusal,
+        stamp: u32,
+        hut: u8,
+    },
+    // The letter is rejected, or from this entry on.
+    Rejected {
+        why: Refusal,
+    },
+    // How many entries were taken, skipped and rejected.
+    Counts {
+        taken: usize,
+        skipped: usize,
+        rejected: usize,
+    },
+}

@@ -1,0 +1,54 @@
+// The text of what is said at the start.
+ghost use Rattle.std.specs.Prelude.{Some};
+ghost use Rattle.console.specs.LetterAnswers.{opened_text, cut_text, usage_text};
+
+use super::{Opened, Usage};
+use std::fmt;
+
+impl fmt::Display for Opened {
+    ghost output = { λ o. Some (opened_text o) };
+
+    fn fmt<W: fmt::Write>(&self, f: &mut fmt::Formatter<W>) -> fmt::Result {
+        let hut = self.hut;
+        let committed = self.committed;
+        let tentative = self.tentative;
+        let cut = CutOff { bytes: self.cut };
+        write!(
+            f,
+            "hut {hut}: {committed} in ink, {tentative} in pencil{cut}"
+        )
+    }
+}
+
+// What was cut off a journal, if anything.
+#[derive(Clone, Copy)]
+struct CutOff {
+    bytes: usize,
+}
+
+impl fmt::Display for CutOff {
+    ghost output = { λ c. Some (cut_text c.bytes) };
+
+    fn fmt<W: fmt::Write>(&self, f: &mut fmt::Formatter<W>) -> fmt::Result {
+        if self.bytes == 0 {
+            f.write_str("")
+        } else {
+            write!(f, ", {} bytes cut off", self.bytes)
+        }
+    }
+}
+
+impl fmt::Display for Usage {
+    ghost output = { λ u. Some (usage_text u) };
+
+    fn fmt<W: fmt::Write>(&self, f: &mut fmt::Formatter<W>) -> fmt::Result {
+        match self {
+            Usage::Hut => f.write_str(
+                "book G, then up to four choices H N K B\ncancel S H\nchange S H, then up to four choices H N K B\nbeds H N K B\nink\nhave\nletter C S0 .. S15\ntake HEX\nshow, or show H N\nline\ngot S H\nserve S0 .. S15\nhelp",
+            ),
+            Usage::Rehearsal => f.write_str(
+                "huts, then one to four huts\nat I\nwalk I J\nlose I J\nagain K J\ncut K J N\nstop I N",
+            ),
+        }
+    }
+}
