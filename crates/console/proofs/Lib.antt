@@ -9,6 +9,7 @@ pub mod NumbersOn
 pub mod Pieces
 pub mod ReadBack
 pub mod SaidBy
+pub mod SlipBack
 pub mod SpacesMore
 pub mod StampsOn
 pub mod WordBounds

@@ -16,7 +16,7 @@ use Rattle.console.proofs.FoursOn.{choices_read}
 use Rattle.console.proofs.SaidBy.{book_says, change_says}
 
 -- a word, once it is begun, ends where the next begins
-word_then :
+pub word_then :
     (c : ℕ) (v w : List ℕ) (ws : List (List ℕ)) → Each (λ b. b ≡ space → ⊥) w → words (spaced ws) ≡ ws
     → words_after (c ∷ v) (w ++ spaced ws) ≡ (c ∷ (v ++ w)) ∷ ws
 word_then c v [] [] plain further = rw (append-nil v) refl
@@ -28,15 +28,15 @@ first_then : (w : List ℕ) (ws : List (List ℕ)) → Word w → words (spaced 
 first_then [] ws word further = absurd (omega arith)
 first_then (b ∷ w) ws word further = rw (ne_eqb b space word.1.0) (word_then b [] w ws word.1.1 further)
 
-words_of_spaced : (ws : List (List ℕ)) → Each Word ws → words (spaced ws) ≡ ws
+pub words_of_spaced : (ws : List (List ℕ)) → Each Word ws → words (spaced ws) ≡ ws
 words_of_spaced [] all = refl
 words_of_spaced (w ∷ ws) all = first_then w ws all.0 (words_of_spaced ws all.1)
 
-decimals_are_words : (ns : List ℕ) → Each TenDigits ns → Each Word (map decimal ns)
+pub decimals_are_words : (ns : List ℕ) → Each TenDigits ns → Each Word (map decimal ns)
 decimals_are_words [] all = tt
 decimals_are_words (n ∷ ns) all = (decimal_word n all.0, decimals_are_words ns all.1)
 
-numbers_of_decimals : (k : ℕ) (ns : List ℕ) → length ns ≤ k → Each TenDigits ns → numbers_of k (map decimal ns) ≡ Some ns
+pub numbers_of_decimals : (k : ℕ) (ns : List ℕ) → length ns ≤ k → Each TenDigits ns → numbers_of k (map decimal ns) ≡ Some ns
 unfolding numbers_of
 numbers_of_decimals zero [] few all = refl
 numbers_of_decimals (suc k) [] few all = refl

@@ -2,6 +2,7 @@
 use Rattle.std.proofs.Common.{◌≡◌, ℕ, Bool, true, false, eqb, List, [], ◌∷◌, ◌++◌, refl, ap}
 use Rattle.console.specs.Commands.{by_words}
 use Rattle.console.specs.Lines.{SpacesDoNotMatter}
+use Rattle.console.specs.Slips.{slip_by_words, SlipSpacesDoNotMatter}
 use Rattle.console.specs.Words.{space, ended, words_after}
 
 -- two texts have the same words behind the same byte, if they do behind every beginning
@@ -22,3 +23,6 @@ last_space (c ∷ a) w = same_behind c (a ++ space ∷ []) a w (eqb c space) ref
 
 pub spaces_do_not_matter_lem : SpacesDoNotMatter
 spaces_do_not_matter_lem = (λ a b. ap by_words (double_space a b []), λ a. refl, λ a. ap by_words (last_space a []))
+
+pub slip_spaces_do_not_matter_lem : SlipSpacesDoNotMatter
+slip_spaces_do_not_matter_lem = (λ a b. ap slip_by_words (double_space a b []), λ a. refl, λ a. ap slip_by_words (last_space a []))

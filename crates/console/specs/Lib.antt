@@ -7,5 +7,7 @@ pub mod LetterAnswers
 pub mod Lines
 pub mod Numbers
 pub mod Requests
+pub mod SlipAnswers
+pub mod Slips
 pub mod Verbs
 pub mod Words

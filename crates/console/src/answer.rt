@@ -6,7 +6,7 @@ use entry_log::vector::Vector;
 mod kinds;
 pub mod letter;
 pub mod letters;
-mod shows;
+pub(crate) mod shows;
 pub mod starts;
 
 #[derive(Clone, Copy)]

@@ -10,6 +10,7 @@ pub mod line;
 mod number;
 pub mod numbers;
 pub mod request;
+pub mod slip;
 pub mod vector;
 pub mod verb;
 mod words;

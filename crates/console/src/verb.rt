@@ -68,7 +68,7 @@ fn read_other_verb(word: &[u8]) -> Option<Verb>
     None
 }
 
-fn is(word: &[u8], name: &[u8]) -> bool
+pub(crate) fn is(word: &[u8], name: &[u8]) -> bool
     ensures { result ≡ bytes_eq word.now name.now }
 {
     word == name

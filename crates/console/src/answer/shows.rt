@@ -55,8 +55,8 @@ impl fmt::Display for Answer {
 
 // The stamps of a vector, each with a space before it.
 #[derive(Clone, Copy)]
-struct Stamps {
-    vector: Vector,
+pub(crate) struct Stamps {
+    pub(crate) vector: Vector,
 }
 
 impl fmt::Display for Stamps {
