@@ -1,5 +1,5 @@
 -- What is taken back, from the parts in which the code does it.
-use Rattle.std.proofs.Common.{◌≡◌, ℕ, ◌+◌, ◌-◌, ◌≤◌, List, [], ◌∷◌, map, length, get_or, set, Some, None, sym, refl, ap, ◌∙◌, ⊎_elim, arith}
+use Rattle.std.proofs.Common.{◌≡◌, ℕ, ◌-◌, List, length, get_or, set, Some, None, refl, ⊎_elim, arith}
 use Rattle.bookings.specs.Held.{Few}
 use Rattle.bookings.specs.Nights.{first, claim, release}
 use Rattle.bookings.specs.Outcomes.{PlainGrant, PlainOutcome, holds, nothing, once_held_by}

@@ -1,6 +1,6 @@
 -- What an entry does, from the parts in which the code does it.
-use Rattle.std.proofs.Common.{◌≡◌, ℕ, List, map, set, Some, None, Option, refl, ap, ◌∙◌}
-use Rattle.bookings.specs.Books.{PlainBook, Standing, Effect, idle, cancelling, changing, changing_to, first_free}
+use Rattle.std.proofs.Common.{◌≡◌, ℕ, List, set, Some, None, Option, refl, ap, ◌∙◌}
+use Rattle.bookings.specs.Books.{PlainBook, Standing, cancelling, changing, changing_to, first_free}
 use Rattle.bookings.specs.Nights.{claim, release}
 use Rattle.bookings.specs.Outcomes.{PlainGrant, PlainOutcome, holds, nothing, cancelled, changed, freed}
 use Rattle.bookings.specs.Plain.{PlainMark, PlainChoice}

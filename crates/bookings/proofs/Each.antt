@@ -1,7 +1,7 @@
 -- What holds of each element of a list.
 use denote.Struct.Props.{props}
 use mathlib.Core.HLevel.{×_prop}
-use Rattle.std.proofs.Common.{ℕ, zero, suc, List, [], ◌∷◌, ◌++◌, map, get_or, take, set}
+use Rattle.std.proofs.Common.{ℕ, zero, suc, List, [], ◌∷◌, ◌++◌, map, get_or, set}
 use Rattle.bookings.specs.Ranges.{Each}
 
 module _ {A : Type 0} (P : A → Type 0) where

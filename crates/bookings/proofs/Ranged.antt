@@ -1,5 +1,5 @@
 -- What the code holds is in range.
-use Rattle.std.proofs.Common.{◌≤◌, map, length, take, arith, length-take}
+use Rattle.std.proofs.Common.{◌≤◌, length, arith, length-take}
 use lib.ListN.{length-map}
 use Rattle.bookings.specs.declared.entry.Mark.{Mark}
 use Rattle.bookings.specs.declared.entry.Stay.{Stay}

@@ -1,5 +1,5 @@
 -- Books that entries in range make: they are sound, and go on being made so.
-use Rattle.std.proofs.Common.{◌≡◌, ℕ, zero, suc, ◌+◌, ◌<◌, ◌≤◌, List, [], ◌∷◌, ◌++◌, length, get_or, replicate, fold, sym, refl, ap, ◌∙◌, subst, ⊎_elim, arith}
+use Rattle.std.proofs.Common.{◌≡◌, ℕ, ◌+◌, ◌<◌, ◌≤◌, List, [], ◌∷◌, ◌++◌, length, get_or, fold, sym, refl, ap, ◌∙◌, subst, ⊎_elim, arith}
 use mathlib.Core.Logic.{∥∥₁_elim, ∥∥₁_map}
 use denote.Struct.Props.{props}
 use lib.ListN.{length-replicate}
@@ -15,7 +15,7 @@ use Rattle.bookings.specs.Ranges.{Each, InRange}
 use Rattle.bookings.specs.Reached.{Reached}
 use Rattle.bookings.specs.Undone.{undone}
 use Rattle.bookings.proofs.Each.{each_push, each_prop}
-use Rattle.bookings.proofs.Sound.{Sound, SoundBook, HeldOk, does_sound, standing-share}
+use Rattle.bookings.proofs.Sound.{SoundBook, HeldOk, does_sound, standing-share}
 use Rattle.bookings.proofs.Tally.{share_within}
 use Rattle.bookings.proofs.Undoing.{undone-does}
 

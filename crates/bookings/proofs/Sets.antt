@@ -1,6 +1,6 @@
 -- Two books are equal in at most one way, as all that is made of numbers.
 use base.Stored.{Coded, Coded-set, coded_unit, coded_ℕ, coded×, coded⊎, coded_list, coded_via}
-use Rattle.std.proofs.Common.{◌≡◌, ℕ, ◌⊎◌, List, [], ◌∷◌, Some, None, Option, sym, refl, ap, ◌∙◌, inl, inr}
+use Rattle.std.proofs.Common.{◌≡◌, ℕ, ◌⊎◌, List, Some, None, Option, sym, refl, ap, ◌∙◌, inl, inr}
 use Rattle.bookings.specs.Books.{PlainBook}
 use Rattle.bookings.specs.Outcomes.{PlainGrant, PlainOutcome, holds, nothing, cancelled, changed, freed, resized}
 use Rattle.bookings.specs.Plain.{PlainMark, PlainStay, PlainChoice}

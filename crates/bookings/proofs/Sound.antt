@@ -1,7 +1,7 @@
 -- What holds of every book that entries in range make.
-use Rattle.std.proofs.Common.{◌≡◌, ℕ, zero, suc, ◌+◌, ◌-◌, ◌<◌, ◌≤◌, max, Bool, true, false, cond, List, [], ◌∷◌, ◌++◌, length, get_or, set, Some, None, Option, sym, refl, ap, ◌∙◌, subst, ⊎_elim, arith, length-append, length-set}
+use Rattle.std.proofs.Common.{◌≡◌, ℕ, ◌+◌, ◌-◌, ◌≤◌, max, true, List, [], ◌∷◌, ◌++◌, length, get_or, set, Some, None, Option, sym, refl, ap, ◌∙◌, subst, ⊎_elim, arith, length-set}
 use Rattle.std.proofs.lemmas.List.{length_push}
-use Rattle.bookings.specs.Books.{PlainBook, Standing, Effect, booking, cancelling, changing, changing_to, supplying, effect_of, first_free, standing, does}
+use Rattle.bookings.specs.Books.{PlainBook, Standing, Effect, booking, cancelling, changing, changing_to, effect_of, first_free, standing, does}
 use Rattle.bookings.specs.Held.{share, held_at, held_on}
 use Rattle.bookings.specs.Nights.{first, claim, release, resize, is_free}
 use Rattle.bookings.specs.Outcomes.{PlainGrant, PlainOutcome, holds, nothing, cancelled, changed, freed, resized}

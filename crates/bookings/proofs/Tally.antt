@@ -1,9 +1,9 @@
 -- What bookings hold at a place, as bookings come, go and change.
-use Rattle.std.proofs.Common.{◌≡◌, ℕ, zero, suc, ◌+◌, ◌-◌, ◌<◌, ◌≤◌, max, Bool, true, false, cond, ltb, leb, List, [], ◌∷◌, ◌++◌, length, get_or, set, sym, refl, ap, ◌∙◌, ⊎_elim, arith}
+use Rattle.std.proofs.Common.{◌≡◌, ℕ, zero, suc, ◌+◌, ◌-◌, ◌<◌, ◌≤◌, Bool, true, false, ltb, leb, List, [], ◌∷◌, ◌++◌, length, get_or, set, refl, ⊎_elim, arith}
 use Rattle.std.proofs.lemmas.List.{get_or_past}
 use Rattle.std.proofs.lemmas.Bool.{cases_lt, le-leb, lt-ltb, leb-true, ltb-true, and_parts, and_from}
 use Rattle.bookings.specs.Held.{share, held_at, held_on}
-use Rattle.bookings.specs.Nights.{first, inside, claim, release, resize, is_free}
+use Rattle.bookings.specs.Nights.{first, inside, claim, release, is_free}
 use Rattle.bookings.specs.Outcomes.{PlainGrant, PlainOutcome, holds, nothing}
 use Rattle.bookings.specs.Plain.{PlainChoice}
 use Rattle.bookings.specs.Ranges.{StayOk}

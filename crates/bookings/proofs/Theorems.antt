@@ -1,12 +1,12 @@
 -- The laws of bookings.
-use Rattle.std.proofs.Common.{◌≡◌, ℕ, zero, suc, ◌+◌, ◌-◌, ◌<◌, ◌≤◌, max, Bool, true, false, cond, ◌⊎◌, List, [], ◌∷◌, ◌++◌, length, get_or, Some, None, Option, sym, refl, ap, ◌∙◌, inl, inr, ⊎_elim, arith}
-use Rattle.std.proofs.lemmas.Bool.{cases_Bool, and_parts, eqb-true}
-use Rattle.bookings.specs.Books.{PlainBook, Standing, booking, effect_of, first_free, standing, standing_at, standing_with, place_from, same_mark, changing, changing_to, does, book_of}
-use Rattle.bookings.specs.Laws.{beds_on, booked_on, covers, Free, NoneFree, IsFirstFree, DoesNothing, Names, by_cancel, by_change, Stands, CameTo}
+use Rattle.std.proofs.Common.{◌≡◌, ℕ, ◌-◌, ◌<◌, ◌≤◌, max, false, ◌⊎◌, [], ◌∷◌, ◌++◌, length, get_or, Some, None, Option, sym, refl, ap, ◌∙◌, inl, inr, ⊎_elim, arith}
+use Rattle.std.proofs.lemmas.Bool.{cases_Bool}
+use Rattle.bookings.specs.Books.{PlainBook, effect_of, first_free, standing, standing_at, standing_with, place_from, changing, changing_to, does, book_of}
+use Rattle.bookings.specs.Laws.{NoneFree, IsFirstFree, DoesNothing, Names, by_cancel, by_change, CameTo}
 use Rattle.bookings.specs.Laws.{NeverOverbooked, BookedIsHeld, GetsFirstFree, UndoGivesBack, OldMarkDoesNothing, ChangeNotFreeDoesNothing, UnknownMarkDoesNothing, BedsAreSet}
-use Rattle.bookings.specs.Nights.{place_of, first, release, resize, is_free, inside}
+use Rattle.bookings.specs.Nights.{place_of, first, release, is_free}
 use Rattle.bookings.specs.Outcomes.{PlainGrant, PlainOutcome, holds, nothing, cancelled, changed, freed, held_by}
-use Rattle.bookings.specs.Plain.{PlainMark, PlainChoice, PlainKind, book, cancel, change, supply, PlainEntry}
+use Rattle.bookings.specs.Plain.{PlainMark, PlainChoice, PlainKind, book, change}
 use Rattle.bookings.specs.Undone.{undone}
 use Rattle.bookings.proofs.Find.{place_is}
 use Rattle.bookings.proofs.Fit.{first-is_free, first_found, first_none, none_first}

@@ -1,10 +1,9 @@
 -- Undoing the entry that was done last gives back the very book.
-use Rattle.std.proofs.Common.{◌≡◌, ℕ, ◌+◌, ◌-◌, ◌<◌, ◌≤◌, max, Bool, true, false, cond, List, [], ◌∷◌, ◌++◌, length, get_or, take, drop, set, Some, None, Option, sym, refl, ap, ◌∙◌, arith}
+use Rattle.std.proofs.Common.{◌≡◌, ℕ, ◌+◌, ◌-◌, max, List, [], ◌∷◌, ◌++◌, length, get_or, take, drop, set, Some, None, Option, sym, refl, ap, ◌∙◌, arith}
 use Rattle.std.proofs.lemmas.List.{length_push, take_at, get_or_at, get_or-set_same, set-set, set-get_or, get_or-take, get_or-drop}
-use Rattle.bookings.specs.Books.{PlainBook, Standing, Effect, entered, booking, cancelling, changing, changing_to, supplying, effect_of, first_free, standing, does}
-use Rattle.bookings.specs.Held.{share}
+use Rattle.bookings.specs.Books.{PlainBook, Standing, Effect, entered, booking, cancelling, changing, changing_to, effect_of, first_free, standing, does}
 use Rattle.bookings.specs.Nights.{first, claim, release, resize, restore, numbers_on}
-use Rattle.bookings.specs.Outcomes.{PlainGrant, PlainOutcome, holds, nothing, cancelled, changed, freed, resized, once_held_by}
+use Rattle.bookings.specs.Outcomes.{PlainGrant, PlainOutcome, holds, nothing, cancelled, changed, once_held_by}
 use Rattle.bookings.specs.Plain.{PlainMark, PlainChoice, PlainKind, book, cancel, change, supply, PlainEntry}
 use Rattle.bookings.specs.Ranges.{StayOk, ChoiceOk, Each, InRange, KindOk}
 use Rattle.bookings.specs.Undone.{Rest, reinstated, reinstated_at, taken_back, undone}

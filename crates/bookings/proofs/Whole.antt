@@ -4,7 +4,7 @@ use lib.ListN.{length-map}
 use Rattle.std.proofs.lemmas.List.{get_or-map, take-map, length_push}
 use Rattle.bookings.specs.Books.{PlainBook, Effect, entered, effect_of, does}
 use Rattle.bookings.specs.Held.{Covered}
-use Rattle.bookings.specs.Outcomes.{PlainOutcome, holds, nothing}
+use Rattle.bookings.specs.Outcomes.{PlainOutcome, nothing}
 use Rattle.bookings.specs.Plain.{PlainMark, PlainKind, PlainEntry}
 use Rattle.bookings.specs.Undone.{Rest, taken_back, undone}
 

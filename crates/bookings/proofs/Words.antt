@@ -1,9 +1,9 @@
 -- The words of the laws, and the tests that the definitions make.
-use Rattle.std.proofs.Common.{◌≡◌, ℕ, ◌+◌, ◌-◌, ◌*◌, ◌<◌, ◌≤◌, Bool, true, false, cond, ◌&&◌, eqb, ltb, leb, List, [], ◌∷◌, get_or, sym, refl, ap, ◌∙◌, ⊎_elim, arith}
+use Rattle.std.proofs.Common.{◌≡◌, ℕ, ◌+◌, ◌-◌, ◌<◌, ◌≤◌, true, false, ◌&&◌, ltb, leb, List, [], ◌∷◌, get_or, sym, refl, ap, ◌∙◌, ⊎_elim, arith}
 use Rattle.std.proofs.lemmas.Bool.{cases_lt, cases_order, le-leb, lt-leb, lt-ltb, le-ltb, eq-eqb, ne_eqb}
 use Rattle.bookings.specs.Books.{PlainBook}
 use Rattle.bookings.specs.Held.{held_at, held_on}
-use Rattle.bookings.specs.Laws.{beds_on, booked_on, covers, beds_of, beds_held_by, beds_held, Free}
+use Rattle.bookings.specs.Laws.{covers, beds_held_by, beds_held, Free}
 use Rattle.bookings.specs.Nights.{place_of, first, inside, is_free}
 use Rattle.bookings.specs.Outcomes.{PlainOutcome, holds, nothing, cancelled, changed, freed, resized, held_by}
 use Rattle.bookings.specs.Plain.{PlainStay, PlainChoice}

@@ -1,5 +1,5 @@
 -- What an entry does to a book, and the book that a list of entries makes.
-use Rattle.std.specs.Prelude.{ℕ, suc, Bool, true, false, cond, ◌&&◌, List, [], ◌∷◌, ◌++◌, replicate, Some, None, fold, Option, ◌==◌, slice_index_or, slice_set}
+use Rattle.std.specs.Prelude.{ℕ, suc, Bool, cond, ◌&&◌, List, [], ◌∷◌, ◌++◌, replicate, Some, None, fold, Option, ◌==◌, slice_index_or, slice_set}
 use Rattle.bookings.specs.Nights.{is_free, claim, release, resize, numbers_on}
 use Rattle.bookings.specs.Outcomes.{PlainGrant, PlainOutcome, holds, nothing, cancelled, changed, freed, resized, held_by}
 use Rattle.bookings.specs.Plain.{PlainMark, PlainChoice, PlainKind, book, cancel, change, supply, PlainEntry}

@@ -1,6 +1,6 @@
 -- What holds of every book that entries in range make, in the words of bookings.
 use Rattle.std.specs.Prelude.{◌≡◌, ℕ, ◌+◌, ◌<◌, ◌≤◌, max, Bool, cond, ◌&&◌, ◌⊎◌, List, [], ◌∷◌, ◌++◌, length, Some, None, Option, ◌==◌, nat_le, nat_lt, slice_index, slice_index_or}
-use Rattle.bookings.specs.Books.{PlainBook, Standing, does, book_of, place_from, standing}
+use Rattle.bookings.specs.Books.{PlainBook, does, book_of, place_from}
 use Rattle.bookings.specs.Nights.{place_of, release}
 use Rattle.bookings.specs.Outcomes.{PlainGrant, PlainOutcome, holds, nothing, cancelled, changed, held_by}
 use Rattle.bookings.specs.Plain.{PlainMark, PlainStay, PlainChoice, PlainKind, book, cancel, change, supply, PlainEntry}

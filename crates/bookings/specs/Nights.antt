@@ -1,5 +1,5 @@
 -- The nights of all huts as places of a list of 16 × 366 numbers, hut by hut, and which choices are free.
-use Rattle.std.specs.Prelude.{ℕ, zero, suc, ◌+◌, ◌-◌, ◌*◌, max, Bool, true, false, cond, ◌&&◌, List, [], ◌∷◌, take, drop, nat_le, nat_lt, slice_index, slice_set}
+use Rattle.std.specs.Prelude.{ℕ, zero, suc, ◌+◌, ◌-◌, ◌*◌, max, Bool, true, false, cond, ◌&&◌, List, take, drop, nat_le, nat_lt, slice_index, slice_set}
 use Rattle.bookings.specs.Plain.{PlainStay, PlainChoice}
 
 -- the place of a hut's night

@@ -1,11 +1,11 @@
 -- A log with a tentative entry more.
-use Rattle.std.proofs.Common.{◌≡◌, ℕ, suc, ◌+◌, ◌-◌, ◌<◌, ◌≤◌, Bool, true, false, List, [], ◌∷◌, ◌++◌, map, length, take, drop, sym, refl, ap, ◌∙◌, ⊎_elim, arith, length-take}
+use Rattle.std.proofs.Common.{◌≡◌, ℕ, ◌+◌, ◌≤◌, false, List, ◌∷◌, ◌++◌, map, length, take, drop, sym, ap, ◌∙◌, ⊎_elim, arith}
 use Rattle.std.proofs.lemmas.List.{take-append-le, drop-append-le, take-take, drop-take, drop-drop, take-map, drop-map, map-append, take-append-drop, length-take-le}
 use Rattle.std.proofs.lemmas.Bool.{cases_Bool}
 use Rattle.std.specs.List.{insert}
 use Rattle.bookings.specs.Books.{same_mark}
 use Rattle.bookings.proofs.Find.{same_is}
-use Rattle.bookings.specs.Plain.{PlainMark, PlainEntry}
+use Rattle.bookings.specs.Plain.{PlainEntry}
 use Rattle.entry_log.specs.Logs.{has, spot, into}
 use Rattle.entry_log.specs.Order.{times, Once}
 use Rattle.entry_log.proofs.Putting.{into-spot, times-append, times-into, has_none, one_more, none_more}

@@ -1,10 +1,10 @@
 -- An entry is put into a list, or taken out: what the list then has, and that it stays sorted.
-use Rattle.std.proofs.Common.{◌≡◌, ℕ, zero, suc, ◌+◌, ◌<◌, ◌≤◌, Bool, true, false, cond, not, ◌&&◌, ◌||◌, eqb, ltb, List, [], ◌∷◌, ◌++◌, length, get_or, take, drop, sym, refl, ap, ◌∙◌, ⊎_elim, arith}
+use Rattle.std.proofs.Common.{◌≡◌, ℕ, zero, suc, ◌+◌, ◌<◌, ◌≤◌, true, false, cond, List, [], ◌∷◌, ◌++◌, length, get_or, take, drop, refl, ap, ⊎_elim, arith}
 use Rattle.std.proofs.lemmas.Bool.{and_parts, and_from, or_parts, or_from, cond_both, cases_Bool, eq-eqb}
 use Rattle.std.specs.List.{insert, remove}
 use Rattle.bookings.specs.Books.{same_mark}
 use Rattle.bookings.specs.Plain.{PlainMark, PlainEntry}
-use Rattle.entry_log.specs.Order.{before, all_behind, ascends, times, Once}
+use Rattle.entry_log.specs.Order.{before, all_behind, ascends, times}
 use Rattle.entry_log.specs.Logs.{has, without, spot, into}
 use Rattle.entry_log.proofs.Marks.{before_else, behind_through}
 

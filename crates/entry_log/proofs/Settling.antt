@@ -1,11 +1,11 @@
 -- A log with a committed entry more.
-use Rattle.std.proofs.Common.{◌≡◌, ℕ, suc, ◌+◌, ◌-◌, ◌<◌, ◌≤◌, Bool, true, false, cond, List, [], ◌∷◌, ◌++◌, map, length, get_or, take, drop, Some, None, sym, refl, ap, ◌∙◌, subst, ⊎_elim, arith, length-drop}
+use Rattle.std.proofs.Common.{◌≡◌, ℕ, suc, ◌+◌, ◌-◌, ◌<◌, ◌≤◌, true, false, List, [], ◌∷◌, ◌++◌, map, length, get_or, take, drop, Some, None, sym, ap, ◌∙◌, subst, ⊎_elim, arith, length-drop}
 use Rattle.std.proofs.lemmas.List.{append_assoc, length_push, take_at, drop_at, take-append-drop, drop-drop, take-map, drop-map, map-append, length-take-le, get_or-drop, drop_more, drop_all, take_more}
 use Rattle.std.proofs.lemmas.Bool.{cases_Bool, and_parts}
 use Rattle.std.specs.List.{insert, remove}
 use Rattle.bookings.proofs.Find.{same_is}
 use Rattle.bookings.specs.Books.{same_mark}
-use Rattle.bookings.specs.Plain.{PlainMark, PlainEntry}
+use Rattle.bookings.specs.Plain.{PlainEntry}
 use Rattle.entry_log.specs.Logs.{PlainLog, has, without, add_committed, first_mark, first_entry, commit_first_of, commit_first}
 use Rattle.entry_log.specs.Order.{all_behind, ascends, times, Once}
 use Rattle.entry_log.specs.Room.{moved_to}

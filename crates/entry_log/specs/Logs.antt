@@ -1,5 +1,5 @@
 -- A log: what is committed, in its order, and then what is tentative, in the order of marks.
-use Rattle.std.specs.Prelude.{ℕ, zero, suc, max, Bool, true, false, cond, ◌||◌, List, [], ◌∷◌, ◌++◌, Some, None, Option}
+use Rattle.std.specs.Prelude.{ℕ, suc, max, Bool, false, cond, ◌||◌, List, [], ◌∷◌, ◌++◌, Some, None, Option}
 use Rattle.bookings.specs.Books.{same_mark}
 use Rattle.bookings.specs.Plain.{PlainMark, PlainEntry}
 use Rattle.entry_log.specs.Order.{before}

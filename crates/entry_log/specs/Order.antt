@@ -1,5 +1,5 @@
 -- The order of marks, by stamp and then by hut, and lists in that order.
-use Rattle.std.specs.Prelude.{ℕ, suc, ◌+◌, ◌≤◌, Bool, true, false, cond, ◌&&◌, ◌||◌, List, [], ◌∷◌, ◌==◌, nat_lt}
+use Rattle.std.specs.Prelude.{ℕ, ◌+◌, ◌≤◌, Bool, true, cond, ◌&&◌, ◌||◌, List, [], ◌∷◌, ◌==◌, nat_lt}
 use Rattle.bookings.specs.Books.{same_mark}
 use Rattle.bookings.specs.Plain.{PlainMark, PlainEntry}
 

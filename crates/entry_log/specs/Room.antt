@@ -1,5 +1,5 @@
 -- A list whose elements are moved up by one, over the last, with another put first; and the same between two places.
-use Rattle.std.specs.Prelude.{ℕ, suc, ◌-◌, List, [], ◌∷◌, ◌++◌, length, take, drop}
+use Rattle.std.specs.Prelude.{ℕ, suc, ◌-◌, List, ◌∷◌, ◌++◌, length, take, drop}
 
 abbrev pub shifted : {X : Type 0} → List X → X → List X
 shifted xs x = x ∷ take (length xs - 1) xs

@@ -1,5 +1,5 @@
 -- Version vectors: for each of sixteen huts the highest stamp of its entries, 0 for none.
-use Rattle.std.specs.Prelude.{ℕ, zero, suc, ◌+◌, max, Bool, true, false, cond, List, [], ◌∷◌, map, replicate, ◌==◌, nat_le, slice_index, slice_set}
+use Rattle.std.specs.Prelude.{ℕ, zero, suc, max, Bool, true, false, cond, List, [], ◌∷◌, map, replicate, ◌==◌, nat_le, slice_index, slice_set}
 use Rattle.std.specs.List.{range_with_len}
 use Rattle.bookings.specs.Nights.{over}
 use Rattle.bookings.specs.Plain.{PlainMark, PlainEntry}

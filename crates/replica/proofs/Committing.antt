@@ -1,7 +1,7 @@
 -- A log with a committed entry more: what stands before its place stays, and what a head says of it.
-use Rattle.std.proofs.Common.{◌≡◌, ℕ, ◌+◌, ◌<◌, ◌≤◌, max, Bool, true, false, List, [], ◌∷◌, ◌++◌, length, take, sym, refl, ap, ◌∙◌, arith, length-append}
-use Rattle.std.proofs.lemmas.List.{append_assoc, take_at, length_push}
-use Rattle.bookings.specs.Plain.{PlainMark, PlainEntry}
+use Rattle.std.proofs.Common.{◌≡◌, ℕ, ◌+◌, ◌<◌, ◌≤◌, max, true, false, [], ◌∷◌, ◌++◌, length, take, sym, refl, ap, ◌∙◌, arith, length-append}
+use Rattle.std.proofs.lemmas.List.{append_assoc, take_at}
+use Rattle.bookings.specs.Plain.{PlainEntry}
 use Rattle.entry_log.proofs.Putting.{length_without, without_none, times-append}
 use Rattle.entry_log.proofs.Stamps.{top-append, top-without, highest-append, highest-cons, highest-without, vector_more, vector_same}
 use Rattle.entry_log.specs.Logs.{PlainLog, all_of, has, without, top, add_committed}

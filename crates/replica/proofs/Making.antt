@@ -1,13 +1,11 @@
 -- An entry that was just made stands last.
-use Rattle.std.proofs.Common.{◌≡◌, ℕ, ◌+◌, ◌<◌, ◌≤◌, max, Bool, true, false, ◌||◌, List, [], ◌∷◌, ◌++◌, length, sym, refl, ap, ◌∙◌, subst, ⊎_elim, arith}
-use Rattle.std.proofs.lemmas.List.{append_assoc, length_push}
+use Rattle.std.proofs.Common.{◌≡◌, ℕ, ◌<◌, max, false, List, [], ◌∷◌, ◌++◌, sym, refl, ap, ◌∙◌, ⊎_elim, arith}
+use Rattle.std.proofs.lemmas.List.{append_assoc}
 use Rattle.std.proofs.lemmas.Bool.{ne_eqb, eq-eqb, cases_eq}
-use Rattle.bookings.specs.Books.{same_mark}
 use Rattle.bookings.specs.Plain.{PlainMark, PlainEntry}
 use Rattle.entry_log.proofs.Stamps.{top-append, into_last, highest-append, vector_more}
 use Rattle.entry_log.specs.Logs.{PlainLog, all_of, has, top, add_tentative}
 use Rattle.entry_log.specs.Vectors.{vector_of, noted, highest}
-use Rattle.replica.specs.Heads.{HeadOf}
 
 -- a mark above all stamps is new
 pub above_new : (m : PlainMark) (es : List PlainEntry) → top es < m.stamp → has m es ≡ false

@@ -1,16 +1,16 @@
 -- The laws of a replica's log.
-use Rattle.std.proofs.Common.{◌≡◌, ℕ, zero, suc, ◌+◌, ◌-◌, ◌<◌, ◌≤◌, Bool, true, false, List, [], ◌∷◌, ◌++◌, length, get_or, take, drop, Some, None, sym, refl, ap, ◌∙◌, ⊎_elim, arith, length-take}
+use Rattle.std.proofs.Common.{◌≡◌, ℕ, zero, suc, ◌-◌, true, List, [], ◌∷◌, ◌++◌, length, take, drop, Some, sym, refl, ap, ◌∙◌, arith, length-take}
 use Rattle.std.proofs.lemmas.List.{take-append-drop, take_all, append_assoc}
-use Rattle.std.proofs.lemmas.Bool.{and_parts, cases_lt}
-use Rattle.bookings.specs.Plain.{PlainMark, PlainEntry}
+use Rattle.std.proofs.lemmas.Bool.{and_parts}
+use Rattle.bookings.specs.Plain.{PlainEntry}
 use Rattle.entry_log.proofs.Marks.{behind_at}
 use Rattle.entry_log.proofs.Putting.{without_none, none_has, times-append, one_more, same_self}
 use Rattle.entry_log.specs.Logs.{PlainLog, all_of, without, first_entry, commit_first_of, add_committed}
 use Rattle.entry_log.specs.Order.{all_behind, ascends, times, Once}
 use Rattle.replica.proofs.Making.{made_last}
 use Rattle.replica.specs.Laws.{Sorted, MadeStandsLast, CommitKeepsOrder, ParcelIsSmall, ParcelHasNoGap}
-use Rattle.replica.specs.Model.{State, made, entry_made, commits, with_committed}
-use Rattle.replica.specs.Parcels.{missing, parcel_for, parcel_of}
+use Rattle.replica.specs.Model.{entry_made}
+use Rattle.replica.specs.Parcels.{missing, parcel_of}
 
 pub ascends-sorted : (es : List PlainEntry) → ascends es ≡ true → Sorted es
 ascends-sorted [] sorted i j d order within = absurd (omega arith)

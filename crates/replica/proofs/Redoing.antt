@@ -1,5 +1,5 @@
 -- One entry fewer, and one more, of a list from its front.
-use Rattle.std.proofs.Common.{◌≡◌, ℕ, zero, suc, ◌+◌, ◌-◌, ◌<◌, ◌≤◌, List, [], ◌∷◌, ◌++◌, map, length, get_or, take, Ok, Err, Result, sym, refl, ap, ◌∙◌, arith, MatchResult}
+use Rattle.std.proofs.Common.{◌≡◌, ℕ, zero, suc, ◌+◌, ◌-◌, ◌<◌, ◌≤◌, List, [], ◌∷◌, length, get_or, take, Ok, Err, Result, sym, refl, ap, ◌∙◌, arith, MatchResult}
 use lib.ListN.{length-map}
 use Rattle.std.proofs.lemmas.List.{take_more, length-take-le}
 use Rattle.bookings.proofs.Reach.{book-push}

@@ -1,5 +1,5 @@
 -- What a head says of a log.
-use Rattle.std.specs.Prelude.{◌≡◌, ℕ, List, length}
+use Rattle.std.specs.Prelude.{◌≡◌, List, length}
 use Rattle.bookings.specs.Plain.{PlainEntry}
 use Rattle.entry_log.specs.Logs.{top}
 use Rattle.entry_log.specs.Vectors.{vector_of}

@@ -1,11 +1,11 @@
 -- What holds of a replica's log, in the words of logs.
-use Rattle.std.specs.Prelude.{◌≡◌, ℕ, ◌+◌, ◌<◌, ◌≤◌, Bool, true, false, List, [], ◌∷◌, ◌++◌, map, length, drop, Some, None, slice_index_or}
-use Rattle.bookings.specs.Plain.{PlainMark, PlainKind, PlainEntry}
-use Rattle.entry_log.specs.Logs.{PlainLog, all_of, first_entry, add_committed}
+use Rattle.std.specs.Prelude.{◌≡◌, ℕ, ◌+◌, ◌<◌, ◌≤◌, true, List, [], ◌∷◌, ◌++◌, length, drop, Some, slice_index_or}
+use Rattle.bookings.specs.Plain.{PlainKind, PlainEntry}
+use Rattle.entry_log.specs.Logs.{all_of, first_entry}
 use Rattle.entry_log.specs.Order.{before, Once}
 use Rattle.replica.specs.Model.{State, made, entry_made, commits, with_committed}
 use Rattle.entry_log.specs.Waits.{PlainWaiting}
-use Rattle.replica.specs.Parcels.{PlainParcel, missing, parcel_for}
+use Rattle.replica.specs.Parcels.{missing, parcel_for}
 
 -- each entry of a list comes behind those that stand before it
 abbrev pub Sorted : List PlainEntry → Type 0

@@ -1,5 +1,5 @@
 -- A replica as its number and its log: what each call does, and which it refuses.
-use Rattle.std.specs.Prelude.{ℕ, suc, ◌+◌, Bool, true, false, cond, not, ◌||◌, List, map, length, Some, None, Option, ◌==◌, nat_le}
+use Rattle.std.specs.Prelude.{ℕ, ◌+◌, Bool, false, cond, not, ◌||◌, List, map, length, Some, None, Option, ◌==◌, nat_le}
 use Rattle.bookings.specs.Books.{named_by}
 use Rattle.bookings.specs.Plain.{PlainMark, PlainKind, PlainEntry}
 use Rattle.entry_log.specs.Logs.{PlainLog, empty_log, all_of, has, top, add_tentative, add_committed, commit_first}

@@ -1,6 +1,6 @@
 -- What a replica hands on to one that says what it has.
 use Rattle.std.specs.Prelude.{ℕ, ◌-◌, cond, List, [], ◌∷◌, ◌++◌, length, take, drop, nat_le, slice_index}
-use Rattle.bookings.specs.Plain.{PlainMark, PlainEntry}
+use Rattle.bookings.specs.Plain.{PlainEntry}
 use Rattle.entry_log.specs.Vectors.{vector_of}
 use Rattle.entry_log.specs.Waits.{PlainWaiting}
 use Rattle.replica.specs.Model.{State}

@@ -1,6 +1,6 @@
-use Rattle.std.proofs.Common.{◌≡◌, ◌<◌, map, length, sym, ap, ◌∙◌, rules}
-use Rattle.bookings.specs.Books.{standing, standing_with}
-use Rattle.bookings.specs.Outcomes.{plain_outcome, held_by}
+use Rattle.std.proofs.Common.{◌<◌, map, length, sym, ap, ◌∙◌, rules}
+use Rattle.bookings.specs.Books.{standing_with}
+use Rattle.bookings.specs.Outcomes.{plain_outcome}
 use Rattle.bookings.specs.Plain.{plain_mark}
 use Rattle.bookings.proofs.Find.{held_is, outcome_there, stands_there}
 use Rattle.bookings.proofs.standing.find_standing.Goals as goal

@@ -1,4 +1,4 @@
-use Rattle.std.proofs.Common.{◌≡◌, map, length, sym, ap, ◌∙◌, rules}
+use Rattle.std.proofs.Common.{map, sym, ap, ◌∙◌, rules}
 use lib.ListN.{length-map}
 use Rattle.std.proofs.lemmas.List.{get_or_past}
 use Rattle.bookings.specs.Outcomes.{nothing, once_held_by, plain_outcome}

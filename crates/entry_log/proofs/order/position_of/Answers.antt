@@ -1,4 +1,4 @@
-use Rattle.std.proofs.Common.{◌≡◌, ℕ, ◌+◌, ◌<◌, false, map, length, get_or, sym, ap, ◌∙◌, arith, below_more}
+use Rattle.std.proofs.Common.{◌≡◌, false, map, get_or, sym, ap, ◌∙◌, arith, below_more}
 use lib.ListN.{length-map}
 use Rattle.bookings.specs.Books.{same_mark}
 use Rattle.bookings.specs.Plain.{PlainEntry, plain, plain_mark}

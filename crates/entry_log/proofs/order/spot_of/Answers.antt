@@ -1,4 +1,4 @@
-use Rattle.std.proofs.Common.{◌≡◌, ℕ, ◌-◌, ◌<◌, map, length, get_or, sym, ap, ◌∙◌, arith}
+use Rattle.std.proofs.Common.{ℕ, ◌-◌, ◌<◌, map, length, sym, ap, ◌∙◌, arith}
 use lib.ListN.{length-map}
 use Rattle.bookings.specs.Plain.{plain, plain_mark}
 use Rattle.entry_log.specs.Order.{before}

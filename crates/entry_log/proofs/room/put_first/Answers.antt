@@ -1,4 +1,4 @@
-use Rattle.std.proofs.Common.{ℕ, ◌-◌, ◌<◌, ◌≢◌, arith, rules}
+use Rattle.std.proofs.Common.{ℕ, ◌-◌, ◌≢◌, arith, rules}
 use Rattle.std.proofs.lemmas.List.{places, same_lists, get_or_read, get_or-set_same, get_or-set_other}
 use Rattle.std.proofs.lemmas.Bool.{cases_eq}
 use Rattle.entry_log.proofs.room.put_first.Goals as goal

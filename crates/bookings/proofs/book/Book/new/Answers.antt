@@ -1,4 +1,4 @@
-use Rattle.std.proofs.Common.{map, sym, refl, ap, subst, rules}
+use Rattle.std.proofs.Common.{map, sym, ap, subst, rules}
 use Rattle.bookings.specs.Outcomes.{plain_outcome}
 use Rattle.bookings.specs.Plain.{plain_mark}
 use Rattle.bookings.specs.Reached.{Reached}

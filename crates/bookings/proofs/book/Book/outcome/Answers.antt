@@ -1,4 +1,4 @@
-use Rattle.std.proofs.Common.{◌≡◌, ◌<◌, length, vec_items, sym, ◌∙◌, rules}
+use Rattle.std.proofs.Common.{◌<◌, length, vec_items, sym, rules}
 use lib.ListN.{length-map}
 use Rattle.bookings.proofs.Find.{outcome_there}
 use Rattle.bookings.proofs.book.Book.outcome.Goals as goal

@@ -1,4 +1,4 @@
-use Rattle.std.proofs.Common.{◌≡◌, ◌+◌, ◌<◌, ◌≤◌, map, length, get_or, vec_items, vec_len, sym, refl, ap, ◌∙◌, arith, rules}
+use Rattle.std.proofs.Common.{◌≡◌, ◌+◌, ◌<◌, ◌≤◌, map, length, get_or, vec_items, sym, refl, ◌∙◌, rules}
 use lib.ListN.{length-map}
 use Rattle.std.proofs.lemmas.List.{take-append-drop}
 use Rattle.bookings.specs.Plain.{plain}

@@ -1,5 +1,4 @@
-use Rattle.std.proofs.Common.{◌≡◌, ◌+◌, ◌-◌, ◌<◌, map, length, get_or, drop, vec_items, sym, ap, ◌∙◌, arith, length-drop}
-use lib.ListN.{length-map}
+use Rattle.std.proofs.Common.{map, get_or, vec_items, sym, ap, ◌∙◌, arith}
 use Rattle.std.proofs.lemmas.List.{get_or-drop}
 use Rattle.bookings.specs.Books.{same_mark}
 use Rattle.bookings.specs.Plain.{PlainEntry, plain, plain_mark}

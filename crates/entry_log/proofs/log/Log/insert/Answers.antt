@@ -1,10 +1,10 @@
-use Rattle.std.proofs.Common.{◌≡◌, ◌+◌, ◌<◌, ◌≤◌, true, false, map, length, take, drop, vec_items, vec_len, sym, ap, ◌∙◌, subst, arith, rules}
+use Rattle.std.proofs.Common.{◌≡◌, ◌+◌, ◌≤◌, false, map, length, take, drop, vec_items, vec_len, sym, ap, ◌∙◌, subst, arith}
 use lib.ListN.{length-map}
 use Rattle.std.proofs.lemmas.List.Edits.{length-insert}
 use Rattle.std.proofs.lemmas.List.{take-append-drop, length-take-le}
 use Rattle.std.specs.List.{insert}
 use Rattle.bookings.specs.Plain.{plain}
-use Rattle.entry_log.specs.Logs.{PlainLog, has, spot, into, add_tentative}
+use Rattle.entry_log.specs.Logs.{has, spot, into}
 use Rattle.entry_log.specs.Order.{ascends, Once}
 use Rattle.entry_log.specs.Views.{log_in}
 use Rattle.entry_log.proofs.Inserting.{map-inserted, inserted-committed, inserted-tentative, inserted_once}

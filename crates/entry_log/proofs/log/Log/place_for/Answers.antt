@@ -1,4 +1,4 @@
-use Rattle.std.proofs.Common.{◌≡◌, ◌+◌, ◌-◌, ◌≤◌, map, length, drop, vec_items, vec_len, sym, ap, ◌∙◌, arith, length-drop, rules}
+use Rattle.std.proofs.Common.{◌≡◌, ◌+◌, ◌-◌, ◌≤◌, map, length, drop, vec_items, vec_len, ap, ◌∙◌, arith, length-drop, rules}
 use lib.ListN.{length-map}
 use Rattle.bookings.specs.Plain.{plain, plain_mark}
 use Rattle.entry_log.specs.Logs.{spot}

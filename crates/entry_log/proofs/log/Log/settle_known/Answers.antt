@@ -1,10 +1,10 @@
-use Rattle.std.proofs.Common.{◌≡◌, ◌+◌, ◌<◌, ◌≤◌, [], ◌∷◌, ◌++◌, map, length, take, drop, vec_items, sym, refl, ap, ◌∙◌, subst, arith, rules}
+use Rattle.std.proofs.Common.{◌≡◌, ◌+◌, ◌<◌, ◌≤◌, [], ◌∷◌, ◌++◌, map, length, take, drop, vec_items, ap, ◌∙◌, arith, rules}
 use lib.ListN.{length-map}
 use Rattle.std.proofs.lemmas.List.{with_items_is}
 use Rattle.std.specs.Vec.{with_items}
 use Rattle.bookings.specs.Plain.{plain}
 use Rattle.entry_log.specs.Logs.{without}
-use Rattle.entry_log.specs.Order.{ascends, Once}
+use Rattle.entry_log.specs.Order.{ascends}
 use Rattle.entry_log.specs.Room.{moved_to}
 use Rattle.entry_log.proofs.Putting.{without-ascends}
 use Rattle.entry_log.proofs.Settling.{map_moved, moved_committed, moved_tentative, parts_once}

@@ -1,4 +1,4 @@
-use Rattle.std.proofs.Common.{◌≡◌, false, leb, get_or, sym, ap, ◌∙◌}
+use Rattle.std.proofs.Common.{leb, get_or, sym, ap, ◌∙◌}
 use Rattle.bookings.specs.Books.{place_from}
 use Rattle.bookings.specs.Plain.{plain_mark}
 use Rattle.bookings.specs.Views.{book_in}

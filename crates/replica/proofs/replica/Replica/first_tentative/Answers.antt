@@ -1,6 +1,6 @@
 use Rattle.std.proofs.Common.{◌≡◌, ◌<◌, List, [], ◌∷◌, map, length, get_or, Some, None, sym, refl, ap, ◌∙◌, arith}
 use Rattle.std.proofs.lemmas.Bool.{eqb-true, eqb-false}
-use Rattle.bookings.specs.Plain.{PlainEntry, plain}
+use Rattle.bookings.specs.Plain.{plain}
 use Rattle.bookings.specs.declared.entry.Entry.{Entry}
 use Rattle.entry_log.specs.Logs.{first_entry}
 use Rattle.replica.proofs.replica.Replica.first_tentative.Goals as goal

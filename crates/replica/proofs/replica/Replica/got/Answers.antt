@@ -1,4 +1,4 @@
-use Rattle.std.proofs.Common.{◌≡◌, ◌<◌, ltb, length, get_or, sym, refl, ap, ◌∙◌, arith}
+use Rattle.std.proofs.Common.{ltb, get_or, sym, refl, ap, ◌∙◌, arith}
 use Rattle.bookings.proofs.Find.{place_is}
 use Rattle.bookings.proofs.Reach.{reached_sound}
 use Rattle.bookings.specs.Books.{PlainBook, place_from}

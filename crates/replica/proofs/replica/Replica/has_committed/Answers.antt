@@ -1,4 +1,4 @@
-use Rattle.std.proofs.Common.{◌+◌, ltb, ◌++◌, length, sym, ap, ◌∙◌, arith}
+use Rattle.std.proofs.Common.{ltb, sym, ap, ◌∙◌, arith}
 use Rattle.bookings.specs.Plain.{plain_mark}
 use Rattle.entry_log.proofs.Known.{found_front, found_none}
 use Rattle.entry_log.proofs.Putting.{has_parts}

@@ -1,4 +1,4 @@
-use Rattle.std.proofs.Common.{◌≡◌, length, sym, ap, ◌∙◌}
+use Rattle.std.proofs.Common.{length, sym, ap, ◌∙◌}
 use Rattle.bookings.specs.Books.{book_of}
 use Rattle.entry_log.proofs.Stamps.{vector_none}
 use Rattle.entry_log.specs.Logs.{all_of, top}

@@ -1,4 +1,4 @@
-use Rattle.std.proofs.Common.{◌≡◌, true, false, sym, refl, ap, ◌∙◌, rules}
+use Rattle.std.proofs.Common.{◌≡◌, true, sym, rules}
 use Rattle.bookings.specs.Plain.{plain_mark}
 use Rattle.entry_log.proofs.Putting.{has_parts, has_second}
 use Rattle.entry_log.specs.Logs.{has}
