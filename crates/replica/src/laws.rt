@@ -2,29 +2,21 @@
 ghost use Rattle.replica.specs.Laws.{MadeStandsLast, CommitKeepsOrder, ParcelIsSmall, ParcelHasNoGap};
 
 // An entry that was just made stands last.
-pub fn made_stands_last() -> u8
+pub fn made_stands_last()
     ensures { MadeStandsLast }
-{
-    0
-}
+{}
 
 // Committing never changes the order of the log, nor does taking as committed what is next already.
-pub fn commit_keeps_order() -> u8
+pub fn commit_keeps_order()
     ensures { CommitKeepsOrder }
-{
-    0
-}
+{}
 
 // What is handed on is 1,024 entries at most.
-pub fn parcel_is_small() -> u8
+pub fn parcel_is_small()
     ensures { ParcelIsSmall }
-{
-    0
-}
+{}
 
 // What is handed on has everything up to where it stops.
-pub fn parcel_has_no_gap() -> u8
+pub fn parcel_has_no_gap()
     ensures { ParcelHasNoGap }
-{
-    0
-}
+{}

@@ -25,8 +25,7 @@ fn redo_from(book: &mut Book, log: &[Entry], place: usize)
     requires done { book_in book.old ≡ book_of (take place (map plain log.now)) }
     ensures { book_in book.new ≡ book_of (map plain log.now) }
 {
-    for i in place..log.len() {
-        let entry = &log[i];
+    for entry in &log[place..] {
         let _ = book.apply(entry);
     }
 }

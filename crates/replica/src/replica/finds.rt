@@ -32,20 +32,14 @@ impl Replica {
     pub fn has_committed(&self, mark: &Mark) -> bool
         ensures { result ≡ has (plain_mark mark.now) (state_of self.now).log.committed }
     {
-        match self.find(mark) {
-            Some(place) => place < self.log.committed(),
-            None => false,
-        }
+        let committed = self.log.committed();
+        self.find(mark).is_some_and(|place| place < committed)
     }
 
     // The entry that is committed next.
     pub fn first_tentative(&self) -> Option<Entry>
         ensures { option_map plain result ≡ first_entry (state_of self.now).log.tentative }
     {
-        let tentative = self.log.tentative_part();
-        if tentative.is_empty() {
-            return None;
-        }
-        Some(tentative[0])
+        self.log.tentative_part().first().copied()
     }
 }

@@ -22,16 +22,9 @@ impl Replica {
         ensures { MatchResult result (λ p. (hut < 16) × (state_of p ≡ fresh hut))
             (λ e. elim e [ Memory ↦ Unit {0} | Refused w ↦ (number_of w ≡ 2) × (16 ≤ hut) ]) }
     {
-        let head = match Head::new(hut) {
-            Ok(head) => head,
-            Err(why) => return Err(Fault::Refused(why)),
-        };
-        let Ok(log) = Log::new(heap) else {
-            return Err(Fault::Memory);
-        };
-        let Ok(book) = Book::new(heap) else {
-            return Err(Fault::Memory);
-        };
+        let head = Head::new(hut)?;
+        let log = Log::new(heap)?;
+        let book = Book::new(heap)?;
         Ok(Replica { head, log, book })
     }
 
@@ -39,10 +32,7 @@ impl Replica {
     fn names_unknown(&self, kind: &Kind) -> bool
         ensures { result ≡ names_unknown (named_by (plain_kind kind.now)) (state_of self.now) }
     {
-        match kind.named() {
-            Some(mark) => !self.knows(&mark),
-            None => false,
-        }
+        kind.named().is_some_and(|mark| !self.knows(&mark))
     }
 
     // Makes an entry, which then stands last: refused where there is no room (8), or where it names a mark that is not known (9).
@@ -51,10 +41,7 @@ impl Replica {
             (λ m. (make_refusal (plain_kind kind) (state_of self.old) ≡ None) × (plain_mark m ≡ next_mark (state_of self.old)) × (state_of self.new ≡ made (plain_kind kind) (state_of self.old)))
             (λ e. (make_refusal (plain_kind kind) (state_of self.old) ≡ Some (number_of e)) × (state_of self.new ≡ state_of self.old)) }
     {
-        let mark = match self.head.next_mark() {
-            Ok(mark) => mark,
-            Err(why) => return Err(why),
-        };
+        let mark = self.head.next_mark()?;
         if self.names_unknown(&kind) {
             return Err(Refusal::Unknown);
         }

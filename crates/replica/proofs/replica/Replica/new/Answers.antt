@@ -7,8 +7,8 @@ use Rattle.replica.proofs.replica.Replica.new.Goals as goal
 
 pub invariant_of-result : goal.invariant_of-result
 invariant_of-result c =
-    let none = ap all_of c.in-Ok-new.ensures in
-    let head = c.in-Ok.ensures in record {
+    let none = ap all_of c.in_ok-log.ensures in
+    let head = c.in_ok-head.ensures in record {
       headed = (head.1 ∙ sym (ap length none), head.2 ∙ sym (ap top none), head.3 ∙ vector_none ∙ sym (ap vector_of none));
-      in_step = ∣ c.in-Ok-new-2.ensures ∙ sym (ap book_of none) ∣₁;
+      in_step = ∣ c.in_ok-book.ensures ∙ sym (ap book_of none) ∣₁;
     }
