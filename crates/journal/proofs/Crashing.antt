@@ -1,6 +1,10 @@
 -- A journal in memory after a crash, opened again.
-use Rattle.std.proofs.Common.{◌≡◌, ℕ, ◌+◌, ◌≤◌, false, List, length, take, drop, vec_items, refl, ap, ◌∙◌, subst, arith}
+use Rattle.std.proofs.Common.{◌≡◌, ℕ, ◌+◌, ◌≤◌, true, false, List, length, take, drop, vec_items, refl, ap, ◌∙◌, subst, arith}
+use Rattle.std.proofs.lemmas.Bool.{false≢true}
 use Rattle.replica.specs.Model.{State}
+use Rattle.journal.specs.Phases.{is_synced, is_shut}
+use Rattle.journal.specs.declared.phase.Phase.{Phase}
+use Rattle.journal.specs.declared.phase.Phase.TheVariants.{Synced, Written, Shut}
 use Rattle.journal.specs.declared.appender.Appender.{Appender}
 use Rattle.journal.specs.declared.memory.Memory.{Memory}
 use Rattle.journal.specs.History.{Kept, history_of, state_with, synced, crashed}
@@ -8,6 +12,12 @@ use Rattle.journal.specs.Keeping.{Keeps, InMemory, left_by}
 use Rattle.journal.specs.Records.{bytes_of, history_in, Replayed, Stands}
 use Rattle.journal.proofs.Keeping.{durable-within}
 use Rattle.journal.proofs.Opening.{opens_after_crash_lem}
+
+-- what is synced is not shut
+not_shut : (p : Phase) → is_synced p ≡ true → is_shut p ≡ false
+not_shut Synced is = refl
+not_shut Written is = absurd (false≢true is)
+not_shut Shut is = absurd (false≢true is)
 
 module _ (j : Appender Memory) (s : State) (k : Kept) (kept : ℕ) (in_step : Keeps (InMemory j) s k) where
   same_hut : s.hut ≡ k.hut
@@ -38,12 +48,12 @@ module _ (j : Appender Memory) (s : State) (k : Kept) (kept : ℕ) (in_step : Ke
         omega (arith, in_step.bytes.1.1, replayed.len, ap (λ rs. length (bytes_of rs)) told, more)
 
     pub crash_keeps :
-        (after : Appender Memory) → after.shut ≡ false → vec_items after.medium.held ≡ take whole bytes → after.medium.settled ≡ length (take whole bytes)
+        (after : Appender Memory) → is_synced after.phase ≡ true → vec_items after.medium.held ≡ take whole bytes → after.medium.settled ≡ length (take whole bytes)
         → Keeps (InMemory after) t (synced (crashed lost_by k))
-    crash_keeps after not-shut held settled =
+    crash_keeps after synced-now held settled =
         let front = replayed.front ∙ ap bytes_of told in
         record {
-          bytes = (not-shut, (held ∙ front, settled ∙ ap length front), λ _. refl);
+          bytes = (not_shut after.phase synced-now, (held ∙ front, settled ∙ ap length front), λ _. refl);
           state = replayed.state ∙ ap (state_with s.hut) told ∙ ap (λ h. state_with h (history_of (crashed lost_by k))) same_hut;
           stands = subst (λ (h : ℕ). Stands h (history_of (crashed lost_by k))) same_hut (subst (Stands s.hut) told replayed.stands);
         }

@@ -1,10 +1,11 @@
 -- A replica and its journal in step, and what a call does to both.
-use Rattle.std.specs.Prelude.{◌≡◌, ℕ, ◌+◌, false, List, length, take, None, vec_items}
+use Rattle.std.specs.Prelude.{◌≡◌, ℕ, ◌+◌, true, false, List, length, take, None, vec_items}
 use Rattle.replica.specs.Model.{State}
 use Rattle.replica.specs.Views.{state_of}
 use Rattle.journal.specs.declared.keeper.Keeper.{Keeper}
 use Rattle.journal.specs.declared.appender.Appender.{Appender}
 use Rattle.journal.specs.declared.memory.Memory.{Memory}
+use Rattle.journal.specs.Phases.{is_synced, is_shut}
 use Rattle.journal.specs.History.{PlainRecord, Kept, history_of, state_in}
 use Rattle.journal.specs.Records.{bytes_of, with_record, replay_refusal, Stands}
 
@@ -43,7 +44,7 @@ most_bytes = 4325376
 
 -- what a journal in memory has: it is open, these are its bytes, and so many of them are synced
 abbrev pub InMemory : Appender Memory → List ℕ → ℕ → Type 0
-InMemory j bs n = (j.shut ≡ false) × ((vec_items j.medium.held ≡ bs) × (j.medium.settled ≡ n)) × (j.dirty ≡ false → n ≡ length bs)
+InMemory j bs n = (is_shut j.phase ≡ false) × ((vec_items j.medium.held ≡ bs) × (j.medium.settled ≡ n)) × (is_synced j.phase ≡ true → n ≡ length bs)
 
 -- what a crash leaves of it, if so many bytes are kept that were not synced
 abbrev pub left_by : ℕ → Memory → List ℕ

@@ -1,97 +1,97 @@
 // A journal over a medium. After a failed write or sync it takes no more.
 ghost use Rattle.std.specs.Prelude.{◌≡◌, ℕ, ◌+◌, ◌<◌, ◌≤◌, Bool, true, false, not, List, ◌++◌, length, take, is_ok, MatchResult};
 ghost use Rattle.std.proofs.Common.{rules};
+ghost use Rattle.journal.specs.Phases.{is_synced, is_shut};
+ghost use Rattle.journal.specs.declared.phase.Phase.TheVariants.{Written};
 
 use crate::fault::Fault;
 use crate::journal::Journal;
 use crate::medium::Medium;
+use crate::phase::Phase;
 
 #[derive(Drop)]
 pub struct Appender<M> {
     pub(crate) medium: M,
-    // Something was written behind the last sync.
-    pub(crate) dirty: bool,
-    pub(crate) shut: bool,
+    pub(crate) phase: Phase,
 }
 
 impl<M: Medium + Drop> Appender<M> {
     // A journal over a medium, of which it is not known what is settled.
     pub(crate) fn new(medium: M) -> Appender<M>
-        ensures { (result.medium ≡ medium) × (result.dirty ≡ true) × (result.shut ≡ false) }
+        ensures { (result.medium ≡ medium) × (result.phase ≡ Written) }
     {
         Appender {
             medium,
-            dirty: true,
-            shut: false,
+            phase: Phase::Written,
         }
+    }
+
+    // Settles the medium. It is shut until that is done.
+    fn settle(&mut self) -> Result<(), Fault>
+        ensures phase { MatchResult result (λ _. is_synced self.new.phase ≡ true) (λ _. is_shut self.new.phase ≡ true) }
+        ensures holds { (bs : List ℕ) (n : ℕ) → is_ok result ≡ true → M.holds self.old.medium bs n → M.holds self.new.medium bs (length bs) }
+        ensures lasts { (bs : List ℕ) → M.lasts self.old.medium bs → M.lasts self.new.medium bs }
+        ensures room { M.room self.old.medium ≤ M.room self.new.medium }
+        ensures sure { 0 < M.room self.old.medium → is_ok result ≡ true }
+    {
+        self.phase = Phase::Shut;
+        self.medium.settle()?;
+        self.phase = Phase::Synced;
+        Ok(())
     }
 
     // Goes on behind the first `left` bytes, all of which are synced.
     pub(crate) fn restart(&mut self, left: usize) -> Result<(), Fault>
-        ensures open { MatchResult result (λ _. (self.new.dirty ≡ false) × (self.new.shut ≡ false)) (λ _. self.new.shut ≡ true) }
+        ensures open { MatchResult result (λ _. is_synced self.new.phase ≡ true) (λ _. is_shut self.new.phase ≡ true) }
         ensures holds { (bs : List ℕ) (n : ℕ) → is_ok result ≡ true → n ≤ left → M.holds self.old.medium bs n → M.holds self.new.medium (take left bs) (length (take left bs)) }
         ensures room { M.room self.old.medium ≤ M.room self.new.medium }
         ensures sure { 0 < M.room self.old.medium → is_ok result ≡ true }
     {
-        self.shut = true;
+        self.phase = Phase::Shut;
         self.medium.cut(left)?;
-        self.medium.settle()?;
-        self.shut = false;
-        self.dirty = false;
-        Ok(())
+        self.settle()
     }
 }
 
 impl<M: Medium + Drop> Journal for Appender<M> {
-    ghost keeps = { λ a bs n. (a.shut ≡ false) × M.Medium.holds a.medium bs n × (a.dirty ≡ false → n ≡ length bs) };
+    ghost keeps = { λ a bs n. (is_shut a.phase ≡ false) × M.Medium.holds a.medium bs n × (is_synced a.phase ≡ true → n ≡ length bs) };
 
     ghost lasts = { λ a bs. M.Medium.lasts a.medium bs };
 
     ghost room = { λ a. M.Medium.room a.medium };
 
-    ghost clean = { λ a. not a.dirty };
+    ghost clean = { λ a. is_synced a.phase };
 
-    ghost shut = { λ a. a.shut };
+    ghost shut = { λ a. is_shut a.phase };
 
     ghost lasting = { Prim.search rules };
 
     ghost cleanly = { Prim.search rules };
 
+    // It is shut until all is written.
     fn append(&mut self, more: &[u8]) -> Result<(), Fault> {
-        if self.shut {
+        if let Phase::Shut = self.phase {
             return Err(Fault::Shut);
         }
-        self.dirty = true;
-        match self.medium.put(more) {
-            Ok(()) => Ok(()),
-            Err(why) => {
-                self.shut = true;
-                Err(why)
-            }
-        }
+        self.phase = Phase::Shut;
+        self.medium.put(more)?;
+        self.phase = Phase::Written;
+        Ok(())
     }
 
     // Where nothing was written since the last sync, there is nothing to do.
     fn sync(&mut self) -> Result<(), Fault> {
-        if self.shut {
-            return Err(Fault::Shut);
-        }
-        if !self.dirty {
-            return Ok(());
-        }
-        match self.medium.settle() {
-            Ok(()) => {
-                self.dirty = false;
-                Ok(())
-            }
-            Err(why) => {
-                self.shut = true;
-                Err(why)
-            }
+        match self.phase {
+            Phase::Synced => Ok(()),
+            Phase::Written => self.settle(),
+            Phase::Shut => Err(Fault::Shut),
         }
     }
 
     fn is_clean(&self) -> bool {
-        !self.dirty
+        match self.phase {
+            Phase::Synced => true,
+            Phase::Written | Phase::Shut => false,
+        }
     }
 }

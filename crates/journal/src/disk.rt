@@ -29,13 +29,6 @@ pub fn find(rt: &HostRuntime, folder: &str, path: &str) -> io::Result<Found> {
     Ok(Found { file, bytes })
 }
 
-fn told(answer: io::Result<()>) -> Result<(), Fault> {
-    match answer {
-        Ok(()) => Ok(()),
-        Err(why) => Err(Fault::Disk(why.kind())),
-    }
-}
-
 impl Medium for File {
     ghost holds = { λ _ _ _. Unit {0} };
 
@@ -46,14 +39,17 @@ impl Medium for File {
     ghost stays = { Prim.search rules };
 
     fn put(&mut self, more: &[u8]) -> Result<(), Fault> {
-        told(self.write_all(more))
+        self.write_all(more)?;
+        Ok(())
     }
 
     fn settle(&mut self) -> Result<(), Fault> {
-        told(self.sync_all())
+        self.sync_all()?;
+        Ok(())
     }
 
     fn cut(&mut self, left: usize) -> Result<(), Fault> {
-        told(self.set_len(left as u64))
+        self.set_len(left as u64)?;
+        Ok(())
     }
 }

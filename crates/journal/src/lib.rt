@@ -11,5 +11,6 @@ pub mod medium;
 pub mod memory;
 mod open;
 pub mod opened;
+pub mod phase;
 pub mod record;
 pub mod trouble;

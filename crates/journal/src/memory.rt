@@ -5,7 +5,6 @@ ghost use Rattle.std.proofs.Common.{rules};
 use crate::fault::Fault;
 use crate::medium::Medium;
 use std::alloc::{AllocError, Global};
-use std::io::ErrorKind;
 
 // With this room a journal in memory never fails: 131,072 records, two for each entry, of 33 bytes, and one byte.
 pub const JOURNAL_ROOM: usize = 4325377;
@@ -52,9 +51,7 @@ impl Medium for Memory {
     ghost stays = { Prim.search rules };
 
     fn put(&mut self, more: &[u8]) -> Result<(), Fault> {
-        if self.held.extend_from_slice(more).is_err() {
-            return Err(Fault::Disk(ErrorKind::OutOfMemory));
-        }
+        self.held.extend_from_slice(more)?;
         Ok(())
     }
 

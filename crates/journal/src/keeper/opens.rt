@@ -3,6 +3,7 @@ ghost use Rattle.std.specs.Prelude.{◌≡◌, ℕ, ◌-◌, ◌<◌, ◌≤◌,
 ghost use Rattle.bookings.specs.Refusals.{number_of};
 ghost use Rattle.journal.specs.History.{opened};
 ghost use Rattle.journal.specs.Keeping.{InStep};
+ghost use Rattle.journal.specs.Phases.{is_synced, is_shut};
 ghost use Rattle.journal.specs.Records.{bytes_of, history_in};
 ghost use Rattle.journal.specs.declared.opened.NotOpened.TheVariants.{Memory, Refused, Failed};
 
@@ -11,7 +12,6 @@ use crate::appender::Appender;
 use crate::medium::Medium;
 use crate::open::replay_all;
 use crate::opened::{NotOpened, Opened};
-use replica::fault;
 use replica::replica::Replica;
 use std::alloc::Global;
 
@@ -25,24 +25,15 @@ impl<M: Medium + Drop> Keeper<Appender<M>> {
         ensures kept { MatchResult result
             (λ o. (hut < 16) × (o.cut ≡ length found.now - length (bytes_of (history_in hut found.now)))
             × ((n : ℕ) → n ≤ length (bytes_of (history_in hut found.now)) → M.Medium.holds medium found.now n
-            → InStep (λ j bs m. (j.shut ≡ false) × M.Medium.holds j.medium bs m × (j.dirty ≡ false → m ≡ length bs)) o.keeper (opened hut (history_in hut found.now))))
+            → InStep (λ j bs m. (is_shut j.phase ≡ false) × M.Medium.holds j.medium bs m × (is_synced j.phase ≡ true → m ≡ length bs)) o.keeper (opened hut (history_in hut found.now))))
             (λ e. elim e [ Memory ↦ Unit {0} | Refused w ↦ (number_of w ≡ 2) × (16 ≤ hut) | Failed f ↦ Unit {0} ]) }
         ensures room { MatchResult result (λ o. M.Medium.room medium ≤ M.Medium.room o.keeper.journal.medium) (λ e. elim e [ Memory ↦ Unit {0} | Refused w ↦ Unit {0} | Failed f ↦ (0 < M.Medium.room medium → ⊥) ]) }
     {
-        let mut replica = match Replica::new(heap, hut) {
-            Ok(replica) => replica,
-            Err(fault::Fault::Memory) => return Err(NotOpened::Memory),
-            Err(fault::Fault::Refused(why)) => return Err(NotOpened::Refused(why)),
-        };
-        let Ok(line) = Vec::with_capacity(heap, RECORD_ROOM) else {
-            return Err(NotOpened::Memory);
-        };
+        let mut replica = Replica::new(heap, hut)?;
+        let line = Vec::with_capacity(heap, RECORD_ROOM)?;
         let whole = replay_all(&mut replica, found);
         let mut journal = Appender::new(medium);
-        match journal.restart(whole) {
-            Ok(()) => {}
-            Err(why) => return Err(NotOpened::Failed(why)),
-        }
+        journal.restart(whole)?;
         Ok(Opened {
             keeper: Keeper {
                 replica,

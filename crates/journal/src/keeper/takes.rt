@@ -29,14 +29,9 @@ impl<J: Journal + Drop> Keeper<J> {
         ensures room { J.room self.old.journal ≤ J.room self.new.journal }
         ensures sure { (k : Kept) → InStep J.keeps self.old k → most_bytes < J.room self.old.journal → IfErr result (λ e. elim e [ Refused w ↦ Unit {0} | Failed f ↦ ⊥ ]) }
     {
-        match self.replica.take_tentative(entry, stood) {
-            Ok(()) => {}
-            Err(why) => return Err(Trouble::Refused(why)),
-        }
-        match self.append(&Record::Tentative(entry)) {
-            Ok(()) => Ok(()),
-            Err(why) => Err(Trouble::Failed(why)),
-        }
+        self.replica.take_tentative(entry, stood)?;
+        self.append(&Record::Tentative(entry))?;
+        Ok(())
     }
 
     // Takes a committed entry with its place, as its replica does.
@@ -53,13 +48,8 @@ impl<J: Journal + Drop> Keeper<J> {
         ensures room { J.room self.old.journal ≤ J.room self.new.journal }
         ensures sure { (k : Kept) → InStep J.keeps self.old k → most_bytes < J.room self.old.journal → IfErr result (λ e. elim e [ Refused w ↦ Unit {0} | Failed f ↦ ⊥ ]) }
     {
-        match self.replica.take_committed(place, entry) {
-            Ok(()) => {}
-            Err(why) => return Err(Trouble::Refused(why)),
-        }
-        match self.append(&Record::Committed(entry)) {
-            Ok(()) => Ok(()),
-            Err(why) => Err(Trouble::Failed(why)),
-        }
+        self.replica.take_committed(place, entry)?;
+        self.append(&Record::Committed(entry))?;
+        Ok(())
     }
 }

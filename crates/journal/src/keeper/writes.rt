@@ -64,14 +64,9 @@ impl<J: Journal + Drop> Keeper<J> {
         ensures room { J.room self.old.journal ≤ J.room self.new.journal }
         ensures sure { (k : Kept) → InStep J.keeps self.old k → most_bytes < J.room self.old.journal → IfErr result (λ e. elim e [ Refused w ↦ Unit {0} | Failed f ↦ ⊥ ]) }
     {
-        let mark = match self.replica.make(kind) {
-            Ok(mark) => mark,
-            Err(why) => return Err(Trouble::Refused(why)),
-        };
-        match self.append_synced(&Record::Tentative(Entry { mark, kind })) {
-            Ok(()) => Ok(mark),
-            Err(why) => Err(Trouble::Failed(why)),
-        }
+        let mark = self.replica.make(kind)?;
+        self.append_synced(&Record::Tentative(Entry { mark, kind }))?;
+        Ok(mark)
     }
 
     // Commits the first tentative entry, if there is one, as its replica does; the mark is told when that is synced.
@@ -91,16 +86,11 @@ impl<J: Journal + Drop> Keeper<J> {
         ensures sure { (k : Kept) → InStep J.keeps self.old k → most_bytes < J.room self.old.journal → IfErr result (λ e. elim e [ Refused w ↦ Unit {0} | Failed f ↦ ⊥ ]) }
     {
         let next = self.replica.first_tentative();
-        match self.replica.commit() {
-            Ok(_) => {}
-            Err(why) => return Err(Trouble::Refused(why)),
-        }
+        self.replica.commit()?;
         let Some(entry) = next else {
             return Ok(None);
         };
-        match self.append_synced(&Record::Committed(entry)) {
-            Ok(()) => Ok(Some(entry.mark)),
-            Err(why) => Err(Trouble::Failed(why)),
-        }
+        self.append_synced(&Record::Committed(entry))?;
+        Ok(Some(entry.mark))
     }
 }

@@ -1,4 +1,4 @@
-use Rattle.std.proofs.Common.{◌≡◌, ℕ, ◌<◌, true, List, [], ◌∷◌, is_ok, Some, sym, refl, ap, ◌∙◌, subst, arith}
+use Rattle.std.proofs.Common.{◌≡◌, ◌+◌, length, ℕ, ◌<◌, List, [], ◌∷◌, Some, sym, refl, ap, ◌∙◌, subst, arith}
 use Rattle.std.proofs.lemmas.Bool.{false≢true}
 use Rattle.bookings.specs.Plain.{PlainEntry, plain}
 use Rattle.entry_log.specs.Logs.{PlainLog, first_entry, first_mark}
@@ -8,7 +8,8 @@ use Rattle.replica.specs.Views.{state_of}
 use Rattle.replica.proofs.Taking.{log_few, log_once}
 use Rattle.journal.specs.History.{PlainRecord, Kept, Committed, commits, synced, history_of, state_in, wrote}
 use Rattle.journal.specs.Keeping.{Keeps, Follows, most_bytes}
-use Rattle.journal.specs.Records.{bytes_of}
+use Rattle.journal.specs.Records.{bytes_of, encode_record}
+use Rattle.journal.proofs.Failing.{failed}
 use Rattle.journal.proofs.Keeping.{keeps_wrote-synced, commits_is, record_fits, durable_lasts}
 use Rattle.journal.proofs.Standing.{commit_stands}
 use Rattle.journal.proofs.keeper.Keeper.commit.Given.{Over}
@@ -32,39 +33,33 @@ module _ (g : Over) (c : After-append_synced g) where
   next : Follows taken was (state_of c.append_synced.new.self.replica)
   next = (
     commit_stands (plain c.in-Some.entry) was (log_once c.args.self.now.replica.log) first,
-    ap state_of c.append_synced.ensures.replica ∙ c.in-Ok.ensures.2 ∙ ap (λ (l : PlainLog). record { hut = was.hut; log = l }) (first_added (plain c.in-Some.entry) was.log was.log.tentative first),
+    ap state_of c.append_synced.ensures.replica ∙ c.in_ok-commit.ensures.2 ∙ ap (λ (l : PlainLog). record { hut = was.hut; log = l }) (first_added (plain c.in-Some.entry) was.log was.log.tentative first),
   )
 
   is_wrote : (k : Kept) → was ≡ state_in k → commits k ≡ wrote taken k
-  is_wrote k same = commits_is was k same (Some (plain c.in-Some.entry)) c.in-Ok.ensures.0 first
+  is_wrote k same = commits_is was k same (Some (plain c.in-Some.entry)) c.in_ok-commit.ensures.0 first
 
-  -- it cannot fail where there is room
-  sure : (k : Kept) → Keeps (g.J.Journal.keeps c.args.self.now.journal) was k → most_bytes < g.J.Journal.room c.args.self.now.journal → is_ok c.append_synced.result ≡ true
-  sure k in_step roomy =
+  -- where there is room, the record fits
+  fits : (k : Kept) → Keeps (g.J.Journal.keeps c.args.self.now.journal) was k → most_bytes < g.J.Journal.room c.args.self.now.journal
+      → length (bytes_of (history_of k)) + length (encode_record taken) < g.J.Journal.room c.args.self.now.journal
+  fits k in_step roomy =
       let few = record_fits _ (g.J.Journal.keeps c.args.self.now.journal) was _ k in_step taken c.append_synced.ensures.fits next (log_few c.append_synced.new.self.replica.log) in
-      c.append_synced.ensures.sure (bytes_of (history_of k)) _ in_step.bytes (omega arith)
+      omega arith
 
-pub returns-in-Ok-append_synced : goal.returns-in-Ok-append_synced
-returns-in-Ok-append_synced g c =
-    let at = (goal.at.returns-in-Ok-append_synced g c).After-append_synced in
-    record {
-      answer = (c.in-Ok.ensures.0, first_marked (was g at).log.tentative (plain c.in-Some.entry) (first g at));
-      kept = λ k in_step.
-          subst (λ (x : Kept). Keeps (g.J.Journal.keeps c.append_synced.new.self.journal) (state_of c.append_synced.new.self.replica) (synced x)) (sym (is_wrote g at k in_step.state))
-          (keeps_wrote-synced _ _ (was g at) _ k in_step (taken g at) c.append_synced.ensures.fits (next g at)
-          (c.in-Ok-append_synced.ensures.keeps (bytes_of (history_of k)) _ refl in_step.bytes));
-      room = c.append_synced.ensures.room;
-      sure = λ k in_step roomy. tt;
-    }
+pub returns-clause-kept : goal.returns-clause-kept
+returns-clause-kept g c = λ k in_step.
+    let at = (goal.at.returns-clause-kept g c).After-append_synced in
+    subst (λ (x : Kept). Keeps (g.J.Journal.keeps c.append_synced.new.self.journal) (state_of c.append_synced.new.self.replica) (synced x)) (sym (is_wrote g at k in_step.state))
+    (keeps_wrote-synced _ _ (was g at) _ k in_step (taken g at) c.append_synced.ensures.fits (next g at)
+    (c.in_ok-append_synced.ensures.keeps (bytes_of (history_of k)) _ refl in_step.bytes))
 
-pub returns-in-Err-append_synced : goal.returns-in-Err-append_synced
-returns-in-Err-append_synced g c =
-    let at = (goal.at.returns-in-Err-append_synced g c).After-append_synced in
-    record {
-      answer = c.in-Err-append_synced.ensures.shut.0;
-      kept = λ k in_step.
-          c.append_synced.ensures.lasts _
-          (durable_lasts _ (g.J.Journal.lasts c.args.self.now.journal) (was g at) k in_step (g.met.J.Journal.lasting c.args.self.now.journal));
-      room = c.append_synced.ensures.room;
-      sure = λ k in_step roomy. false≢true (sym (ap is_ok c.in-Err-append_synced.is) ∙ sure g at k in_step roomy);
-    }
+pub returns-in_err-append_synced-clause-kept : goal.returns-in_err-append_synced-clause-kept
+returns-in_err-append_synced-clause-kept g c =
+    let at = (goal.at.returns-in_err-append_synced-clause-kept g c).After-append_synced in
+    failed c.from_residual-in_err-append_synced.result c.in_err-append_synced.field-0.0 _ _ c.from_residual-in_err-append_synced.ensures.1
+    (λ k in_step. c.append_synced.ensures.lasts _ (durable_lasts _ (g.J.Journal.lasts c.args.self.now.journal) (was g at) k in_step (g.met.J.Journal.lasting c.args.self.now.journal)))
+
+pub returns-in_err-append_synced-clause-sure : goal.returns-in_err-append_synced-clause-sure
+returns-in_err-append_synced-clause-sure g c = λ k in_step roomy.
+    let at = (goal.at.returns-in_err-append_synced-clause-sure g c).After-append_synced in
+    absurd (false≢true (c.in_err-append_synced.ensures.sure (bytes_of (history_of k)) _ in_step.bytes (fits g at k in_step roomy)))

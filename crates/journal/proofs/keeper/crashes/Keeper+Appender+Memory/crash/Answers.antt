@@ -36,7 +36,7 @@ returns c =
           let held = c.restart.ensures.holds c.bytes-found.result.now j.medium.settled (opens at room) within (sym c.bytes-found.ensures, c.crash.ensures.settled) in (
             lost_by j s k c.args.kept in_step,
             crash_keeps j s k c.args.kept in_step c.bytes-found.result.now c.replay_all-whole.result _ (replayed at) (is at) c.restart.new.self
-                (succeeds _ c.restart.result (opens at room) c.restart.ensures.open).1 held.0 held.1,
+                (succeeds _ c.restart.result (opens at room) c.restart.ensures.open) held.0 held.1,
           );
       state = (replayed at).state ∙ ap (λ bs. state_with s.hut (history_in s.hut bs)) (is at);
       cut = ap (λ n. length c.bytes-found.result.now - n) (replayed at).len ∙ ap (λ bs. length bs - length (bytes_of (history_in s.hut bs))) (is at);
