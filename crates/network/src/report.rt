@@ -1,15 +1,15 @@
 // What came of a letter: room for all that one can hold, reserved once.
-ghost use Rattle.std.specs.Prelude.{◌≡◌, ◌≤◌, [], IfOk, vec_capacity};
+ghost use Rattle.std.specs.Prelude.{◌≡◌, ◌≤◌, [], not, IfOk, vec_capacity};
+ghost use Rattle.std.specs.Option.{is_some, unwrap_or};
 
 use crate::outcome::Outcome;
 use std::alloc::{AllocError, Global};
 
-// What came of each entry, in the letter's order; how many were kept out behind them; or the whole letter was.
+// What came of each entry, in the letter's order, and how many were kept out behind them; none of both where the whole letter was kept out.
 #[derive(Drop)]
 pub struct Report {
     pub(crate) outcomes: Vec<Outcome>,
-    pub(crate) rejected: usize,
-    pub(crate) damaged: bool,
+    pub(crate) rejected: Option<usize>,
     ghost room: { 1024 ≤ vec_capacity outcomes },
 }
 
@@ -20,8 +20,7 @@ impl Report {
         let outcomes = Vec::with_capacity(heap, 1024)?;
         Ok(Report {
             outcomes,
-            rejected: 0,
-            damaged: false,
+            rejected: Some(0),
         })
     }
 
@@ -33,15 +32,15 @@ impl Report {
 
     // How many entries were kept out, out of range or behind one that is.
     pub fn rejected(&self) -> usize
-        ensures { result ≡ self.now.rejected }
+        ensures { result ≡ unwrap_or self.now.rejected 0 }
     {
-        self.rejected
+        self.rejected.unwrap_or(0)
     }
 
     // Whether the letter was kept out whole.
     pub fn is_damaged(&self) -> bool
-        ensures { result ≡ self.now.damaged }
+        ensures { result ≡ not (is_some self.now.rejected) }
     {
-        self.damaged
+        self.rejected.is_none()
     }
 }

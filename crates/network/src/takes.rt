@@ -65,10 +65,8 @@ fn take_all<J: Journal + Drop>(
     ensures capacity { vec_capacity outcomes.new ≡ vec_capacity outcomes.old }
 {
     while let Some(item) = letter.next() {
-        match take_item(keeper, &item) {
-            Ok(outcome) => outcomes.push_reserved(outcome),
-            Err(why) => return Err(why),
-        }
+        let outcome = take_item(keeper, &item)?;
+        outcomes.push_reserved(outcome);
     }
     Ok(())
 }
@@ -89,16 +87,10 @@ pub fn take<J: Journal + Drop>(
     ensures sure { (k : Kept) → InStep J.Journal.keeps keeper.old k → most_bytes < J.Journal.room keeper.old.journal → is_ok result ≡ true }
 {
     report.outcomes.clear();
-    report.rejected = 0;
-    match Letter::open(bytes) {
-        Ok(letter) => {
-            report.damaged = false;
-            report.rejected = letter.kept_out();
-            take_all(keeper, letter, &mut report.outcomes)
-        }
-        Err(_) => {
-            report.damaged = true;
-            Ok(())
-        }
-    }
+    report.rejected = None;
+    let Ok(letter) = Letter::open(bytes) else {
+        return Ok(());
+    };
+    report.rejected = Some(letter.kept_out());
+    take_all(keeper, letter, &mut report.outcomes)
 }

@@ -1,5 +1,9 @@
 // Why a letter was not written.
+ghost use Rattle.std.specs.Prelude.{◌≡◌};
+ghost use Rattle.network.specs.declared.unsent.Unsent.TheVariants.{Failed, NoRoom};
+
 use journal::fault::Fault;
+use letters::unwritten::Unwritten;
 
 #[derive(Clone, Copy)]
 pub enum Unsent {
@@ -7,4 +11,21 @@ pub enum Unsent {
     Failed(Fault),
     // The buffer has no room for a letter.
     NoRoom,
+}
+
+impl From<Fault> for Unsent {
+    ghost from_gives = { λ why e. e ≡ Failed why };
+
+    fn from(why: Fault) -> Unsent {
+        Unsent::Failed(why)
+    }
+}
+
+// A parcel never has too many entries for a letter.
+impl From<Unwritten> for Unsent {
+    ghost from_gives = { λ _ e. e ≡ NoRoom };
+
+    fn from(_why: Unwritten) -> Unsent {
+        Unsent::NoRoom
+    }
 }

@@ -19,10 +19,7 @@ use replica::summary::Summary;
 fn place_from(committed: usize) -> u32
     ensures { committed < 4294967296 → result ≡ committed }
 {
-    if committed > 4294967295 {
-        return 0;
-    }
-    committed as u32
+    u32::try_from(committed).unwrap_or(0)
 }
 
 // Syncs, and puts a letter for one that has what a summary says behind the bytes of a buffer, in the memory that it has.
@@ -42,21 +39,12 @@ pub fn letter_for<J: Journal + Drop>(
     ensures room { J.Journal.room keeper.old.journal ≤ J.Journal.room keeper.new.journal }
     ensures sure { (k : Kept) → InStep J.Journal.keeps keeper.old k → 0 < J.Journal.room keeper.old.journal → vec_len out.old + 98345 ≤ vec_capacity out.old → is_ok result ≡ true }
 {
-    match keeper.sync() {
-        Ok(()) => {}
-        Err(why) => return Err(Unsent::Failed(why)),
-    }
+    keeper.sync()?;
     let Some(replica) = keeper.shown() else {
         return Err(Unsent::NoRoom);
     };
     replica.hand_on(has, parcel);
-    match write_letter(
-        place_from(has.committed),
-        parcel.committed(),
-        parcel.tentative(),
-        out,
-    ) {
-        Ok(()) => Ok(()),
-        Err(_) => Err(Unsent::NoRoom),
-    }
+    let place = place_from(has.committed);
+    write_letter(place, parcel.committed(), parcel.tentative(), out)?;
+    Ok(())
 }

@@ -1,10 +1,10 @@
-use Rattle.std.proofs.Common.{map, length, sym, refl, ap, ◌∙◌, subst, arith}
+use Rattle.std.proofs.Common.{map, length, sym, ap, ◌∙◌, subst, arith}
 use Rattle.journal.specs.Keeping.{InStep}
 use Rattle.letters.proofs.Few.{heard-few}
 use Rattle.letters.specs.Items.{items_of}
 use Rattle.letters.specs.Letters.{Heard}
 use Rattle.network.specs.Items.{items_taken}
-use Rattle.network.specs.Taking.{plain_outcome, is_damaged, kept_out, outcomes_of}
+use Rattle.network.specs.Taking.{plain_outcome, kept_out, outcomes_of}
 use Rattle.network.proofs.takes.take.Goals as goal
 
 pub take_all-requires : goal.take_all-requires
@@ -14,14 +14,12 @@ take_all-requires g c =
       capacity = omega (arith, heard-few c.args.bytes.now, ap (λ h. length (items_of h)) c.in-Ok.ensures, c.clear.ensures.capacity, c.args.report.now.room);
     }
 
-pub returns-in-Err : goal.returns-in-Err
+pub returns-in_default-clause-kept : goal.returns-in_default-clause-kept
 unfolding items_taken
-returns-in-Err g c =
-    record {
-      kept = λ k in_step. subst (λ (h : Heard). InStep g.J.Journal.keeps c.args.keeper.now (items_taken (items_of h) k)) (sym c.in-Err.ensures.1) in_step;
-      answer = λ k in_step.
-          let none = sym c.in-Err.ensures.1 in
-          (ap is_damaged none, ap kept_out none, ap (map plain_outcome) c.clear.ensures.items ∙ ap (λ h. outcomes_of (items_of h) k) none);
-      room = omega arith;
-      sure = λ k in_step roomy. refl;
-    }
+returns-in_default-clause-kept g c =
+    λ k in_step. subst (λ (h : Heard). InStep g.J.Journal.keeps c.args.keeper.now (items_taken (items_of h) k)) (sym c.in_default.ensures.1) in_step
+
+pub returns-in_default-clause-answer : goal.returns-in_default-clause-answer
+returns-in_default-clause-answer g c = λ k in_step.
+    let none = sym c.in_default.ensures.1 in
+    (ap kept_out none, ap (map plain_outcome) c.clear.ensures.items ∙ ap (λ h. outcomes_of (items_of h) k) none)

@@ -20,10 +20,10 @@ loop-item-init g c = (
 
 pub loop-item-preserved : goal.loop-item-preserved
 loop-item-preserved g c = (
-  λ k in_step. midway_more _ _ _ _ _ _ _ (plain_item c.in-Some.item) k (c.loop-item.invariant.0 k in_step) c.in-Some.ensures.next c.in-Ok.ensures.kept
-      (λ m kept. ap (map plain_outcome) c.push_reserved.ensures.items ∙ map-append plain_outcome (vec_items c.loop-item.outcomes) (c.in-Ok.outcome ∷ [])
-      ∙ ap (λ o. map plain_outcome (vec_items c.loop-item.outcomes) ++ o ∷ []) (c.in-Ok.ensures.answer ∙ ap (λ s. outcome_of (plain_item c.in-Some.item) (refusal_of (plain_item c.in-Some.item) s)) kept.state)),
-  omega (arith, c.in-Ok.ensures.room, c.loop-item.invariant.1),
+  λ k in_step. midway_more _ _ _ _ _ _ _ (plain_item c.in-Some.item) k (c.loop-item.invariant.0 k in_step) c.in-Some.ensures.next c.in_ok-outcome.ensures.kept
+      (λ m kept. ap (map plain_outcome) c.push_reserved.ensures.items ∙ map-append plain_outcome (vec_items c.loop-item.outcomes) (c.in_ok-outcome.outcome ∷ [])
+      ∙ ap (λ o. map plain_outcome (vec_items c.loop-item.outcomes) ++ o ∷ []) (c.in_ok-outcome.ensures.answer ∙ ap (λ s. outcome_of (plain_item c.in-Some.item) (refusal_of (plain_item c.in-Some.item) s)) kept.state)),
+  omega (arith, c.in_ok-outcome.ensures.room, c.loop-item.invariant.1),
   omega (arith, c.push_reserved.ensures.len, c.push_reserved.ensures.capacity, c.loop-item.invariant.2, ap length c.in-Some.ensures.next),
   c.push_reserved.ensures.capacity ∙ c.loop-item.invariant.3,
 )
