@@ -1,7 +1,7 @@
 -- A night more, and a choice more: how the answer goes on from what is left.
-use Rattle.std.proofs.Common.{◌≡◌, ℕ, zero, suc, ◌+◌, ◌-◌, ◌<◌, ◌≤◌, Bool, true, false, cond, leb, List, [], ◌∷◌, map, length, get_or, drop, Some, None, Option, sym, refl, ap, ◌∙◌, subst, add-one, arith}
-use Rattle.std.proofs.lemmas.List.{drop_more, drop_all, drop-map}
-use Rattle.std.proofs.lemmas.Bool.{le-leb, lt-leb, leb-true}
+use Rattle.std.proofs.Common.{◌≡◌, ℕ, zero, suc, ◌+◌, ◌-◌, ◌<◌, ◌≤◌, Bool, true, false, cond, leb, List, [], ◌∷◌, map, length, get_or, take, drop, Some, None, Option, sym, refl, ap, ◌∙◌, subst, add-one, arith}
+use Rattle.std.proofs.lemmas.List.{drop_more, drop_all, drop-map, get_or-take, get_or-drop}
+use Rattle.std.proofs.lemmas.Bool.{le-leb, leb-true}
 use Rattle.bookings.specs.declared.entry.Choice.{Choice}
 use Rattle.bookings.specs.Books.{first_free}
 use Rattle.bookings.specs.Nights.{all_free, is_free}
@@ -9,21 +9,12 @@ use Rattle.bookings.specs.Outcomes.{PlainGrant}
 use Rattle.bookings.specs.Plain.{PlainChoice, plain_choice}
 use Rattle.bookings.specs.Ranges.{Each}
 
-pub free_yes :
-    (beds booked : List ℕ) (s n w : ℕ) → 0 < n → w ≤ get_or beds s 0 - get_or booked s 0
-    → all_free beds booked s n w ≡ all_free beds booked (s + 1) (n - 1) w
-free_yes beds booked s zero w pos h = absurd (omega arith)
-free_yes beds booked s (suc n) w pos h =
-    let e : suc n - 1 ≡ n = omega arith in rw (le-leb w (get_or beds s 0 - get_or booked s 0) h, e, add-one s) refl
-
-pub free_no :
-    (beds booked : List ℕ) (s n w : ℕ) → 0 < n → get_or beds s 0 - get_or booked s 0 < w → all_free beds booked s n w ≡ false
-free_no beds booked s zero w pos h = absurd (omega arith)
-free_no beds booked s (suc n) w pos h = rw (lt-leb w (get_or beds s 0 - get_or booked s 0) h) refl
-
-pub free_none : (beds booked : List ℕ) (s n w : ℕ) → n ≤ 0 → all_free beds booked s n w ≡ true
-free_none beds booked s zero w h = refl
-free_none beds booked s (suc n) w h = absurd (omega arith)
+-- the beds that are free on a night, read from the numbers of the stay's nights
+pub free_there :
+    (beds booked there taken : List ℕ) (s n j a b : ℕ) → there ≡ take n (drop s beds) → taken ≡ take n (drop s booked) → j < n
+    → a ≡ get_or there j 0 → b ≡ get_or taken j 0 → get_or beds (s + j) 0 - get_or booked (s + j) 0 ≡ a - b
+free_there beds booked there taken s n j a b is_there is_taken h a-is b-is =
+    sym (rw (a-is, b-is, is_there, is_taken, get_or-take n (drop s beds) j 0 h, get_or-take n (drop s booked) j 0 h, get_or-drop s beds j 0, get_or-drop s booked j 0) refl)
 
 next_choice :
     (i : ℕ) (cs : List Choice) (c : Choice) → i < length cs → c ≡ get_or cs i c → drop i (map plain_choice cs) ≡ plain_choice c ∷ drop (i + 1) (map plain_choice cs)
@@ -108,6 +99,15 @@ free_from beds booked s (suc n) w each =
     let here : w ≤ get_or beds s 0 - get_or booked s 0 = let z : s + 0 ≡ s = omega arith in rw z at (each 0 (omega arith)) in
     rw (le-leb w (get_or beds s 0 - get_or booked s 0) here)
     (free_from beds booked (suc s) n w (λ k h. let z : s + suc k ≡ suc s + k = omega arith in rw z at (each (suc k) (omega arith))))
+
+-- where a night is not free, not all are
+pub not_free :
+    (beds booked : List ℕ) (s n w j : ℕ) → j < n → get_or beds (s + j) 0 - get_or booked (s + j) 0 < w → all_free beds booked s n w ≡ false
+not_free beds booked s n w j h short = by_answer (all_free beds booked s n w) refl
+  where
+    by_answer : (b : Bool) → all_free beds booked s n w ≡ b → b ≡ false
+    by_answer true e = let at = free-at beds booked s n w j e h in absurd (omega arith)
+    by_answer false e = refl
 
 -- the grant that is found: which choice it is, and that no earlier one is free
 abbrev pub Found : List ℕ → List ℕ → ℕ → List PlainChoice → PlainGrant → Type 0

@@ -6,6 +6,7 @@ pub mod Fit
 pub mod Over
 pub mod Ranged
 pub mod Reach
+pub mod Same
 pub mod Sets
 pub mod Sound
 pub mod Tally

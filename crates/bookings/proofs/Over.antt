@@ -1,5 +1,9 @@
 -- What is left at each place where some numbers of a list are replaced, and how that is taken back.
-use Rattle.std.proofs.Common.{◌≡◌, ℕ, zero, suc, ◌+◌, ◌-◌, ◌<◌, ◌≤◌, true, false, ◌≢◌, ◌⊎◌, List, [], ◌∷◌, ◌++◌, length, get_or, take, drop, set, sym, refl, ap, ◌∙◌, inl, inr, ⊎_elim, add-one, arith, length-drop, length-set}
+use Rattle.std.proofs.Common.{◌≡◌, ℕ, zero, suc, ◌+◌, ◌-◌, ◌<◌, ◌≤◌, max, true, false, ◌≢◌, ◌⊎◌, List, [], ◌∷◌, ◌++◌, length, get_or, take, drop, set, sym, refl, ap, ◌∙◌, inl, inr, ⊎_elim, add-one, arith, length-drop, length-set, length-take-le}
+use borrow.Rule.Slice.PartMut.{mid_of, put_mid, same_len_mid}
+use Rattle.std.proofs.Math.ListN.{get_or-append}
+use Rattle.std.proofs.Math.Seq.{get_or-append_right}
+use Rattle.std.proofs.lemmas.Grind.{same_number_lists}
 use Rattle.std.proofs.lemmas.List.{get_or-set_same, get_or-set_other, get_or-take, get_or-drop, take_more, take_more_set, same_lists, get_or_default}
 use Rattle.std.proofs.lemmas.Bool.{cases_lt, cases_eq, le-leb, lt-leb, lt-ltb, le-ltb}
 use Rattle.bookings.specs.Nights.{first, inside, over, claim, release}
@@ -78,22 +82,67 @@ over_back f g xs s n fits back =
     in
     get_or_default (over g (over f xs s n) s n) k d 0 h ∙ here ∙ get_or_default xs k 0 d inner)
 
--- the numbers that are replaced, read one after another
-pub read_step :
-    (were ys xs : List ℕ) (s n : ℕ) → n < length were → s + n < length xs → get_or ys (s + n) 0 ≡ get_or xs (s + n) 0 → take n were ≡ take n (drop s xs)
-    → take (n + 1) (set were n (get_or ys (s + n) 0)) ≡ take (n + 1) (drop s xs)
-read_step were ys xs s n room more same so_far =
-    let there : n < length (drop s xs) = simp length-drop (omega arith) in
-    take_more_set were n (get_or ys (s + n) 0) room
-    ∙ ap (λ l. l ++ get_or ys (s + n) 0 ∷ []) so_far
-    ∙ ap (λ v. take n (drop s xs) ++ v ∷ []) (same ∙ sym (get_or-drop s xs n 0))
-    ∙ sym (take_more (drop s xs) n 0 there)
+-- a part of a list whose numbers were replaced is put back: the list has them replaced there
+pub part_next :
+    (g : ℕ → ℕ → ℕ) (xs zs : List ℕ) (s k m : ℕ) → zs ≡ over g (mid_of s k xs) 0 m → m < k → get_or zs m 0 ≡ get_or xs (s + m) 0
+part_next g xs zs s k m is h = rw is (over_past g (mid_of s k xs) 0 m m (omega arith)) ∙ get_or-take k (drop s xs) m 0 h ∙ get_or-drop s xs m 0
 
--- a number among the first of a list, counted from a place
-pub kept_at : (were : List ℕ) (s n nights : ℕ) → n < nights → get_or were n 0 ≡ get_or (take nights were) ((s + n) - s) 0
-kept_at were s n nights h =
-    let at : (s + n) - s ≡ n = omega arith in
-    sym (get_or-take nights were n 0 h) ∙ sym (ap (λ i. get_or (take nights were) i 0) at)
+put_over :
+    (f : ℕ → ℕ → ℕ) (xs zs : List ℕ) (s n : ℕ) → s + n ≤ length xs → length zs ≡ n
+    → ((j : ℕ) → j < n → get_or zs j 0 ≡ f (s + j) (get_or xs (s + j) 0))
+    → put_mid s n xs zs ≡ over f xs s n
+put_over f xs zs s n fits many each =
+    let front : length (take s xs) ≡ s = length-take-le s xs (omega arith) in
+    let part : length zs ≡ length (mid_of s n xs) = many ∙ sym (length-take-le n (drop s xs) (simp length-drop (omega arith))) in
+    same_number_lists _ _ (same_len_mid s n xs zs part ∙ sym (length_over f xs s n))
+    (λ k h.
+    ⊎_elim
+    (λ low. get_or-append (take s xs) (zs ++ drop n (drop s xs)) 0 k (omega arith) ∙ get_or-take s xs k 0 low ∙ sym (over_below f xs s n k low))
+    (λ from.
+    let j : ℕ = k - s in
+    let at : s + j ≡ k = omega arith in
+    let behind : get_or (put_mid s n xs zs) k 0 ≡ get_or (zs ++ drop n (drop s xs)) j 0 = get_or-append_right (take s xs) (zs ++ drop n (drop s xs)) k 0 (omega arith) ∙ ap (λ i. get_or (zs ++ drop n (drop s xs)) (k - i) 0) front in
+    behind
+    ∙ ⊎_elim
+    (λ upto.
+    get_or-append zs (drop n (drop s xs)) 0 j (omega arith) ∙ each j (omega arith) ∙ ap (λ i. f i (get_or xs i 0)) at
+    ∙ sym (over-inside f xs s n k fits from upto))
+    (λ past.
+    get_or-append_right zs (drop n (drop s xs)) j 0 (omega arith) ∙ get_or-drop n (drop s xs) (j - length zs) 0 ∙ get_or-drop s xs (n + (j - length zs)) 0
+    ∙ ap (λ i. get_or xs i 0) (omega arith) ∙ sym (over_past f xs s n k past))
+    (cases_lt k (s + n)))
+    (cases_lt k s))
+
+pub part_over :
+    (f g : ℕ → ℕ → ℕ) (xs zs : List ℕ) (s k n m : ℕ) → k ≡ n → m ≡ n → s + n ≤ length xs → zs ≡ over g (mid_of s k xs) 0 m
+    → ((j : ℕ) → j < n → (x : ℕ) → g j x ≡ f (s + j) x)
+    → put_mid s k xs zs ≡ over f xs s n
+part_over f g xs zs s k n m size all fits is same =
+    let part : length (mid_of s n xs) ≡ n = length-take-le n (drop s xs) (simp length-drop (omega arith)) in
+    let written : zs ≡ over g (mid_of s n xs) 0 n = is ∙ ap (λ i. over g (mid_of s i xs) 0 m) size ∙ ap (over g (mid_of s n xs) 0) all in
+    ap (λ i. put_mid s i xs zs) size
+    ∙ put_over f xs zs s n fits (ap length written ∙ length_over g (mid_of s n xs) 0 n ∙ part)
+    (λ j h.
+    ap (λ l. get_or l j 0) written ∙ over-inside g (mid_of s n xs) 0 n j (omega arith) (omega arith) (omega arith)
+    ∙ ap (g j) (get_or-take n (drop s xs) j 0 h ∙ get_or-drop s xs j 0) ∙ same j h (get_or xs (s + j) 0))
+
+-- the same, where the numbers of another list are put there
+pub put_others :
+    (xs zs ws : List ℕ) (s k n : ℕ) → k ≡ n → length ws ≡ n → s + n ≤ length xs → zs ≡ ws → put_mid s k xs zs ≡ over (λ i _. get_or ws (i - s) 0) xs s n
+put_others xs zs ws s k n size many fits is =
+    ap (λ i. put_mid s i xs zs) size
+    ∙ put_over (λ i _. get_or ws (i - s) 0) xs zs s n fits (ap length is ∙ many)
+    (λ j h. let at : s + j - s ≡ j = omega arith in rw (is, at) refl)
+
+-- the same, where each number is at least another list's
+pub part_raised :
+    (w : ℕ) (xs bs ys zs : List ℕ) (s t k n m : ℕ) → s ≡ t → k ≡ n → m ≡ n → t + n ≤ length xs → ys ≡ take n (drop t bs)
+    → zs ≡ over (λ i _. max w (get_or ys i 0)) (mid_of s k xs) 0 m
+    → put_mid s k xs zs ≡ over (λ i _. max w (get_or bs i 0)) xs t n
+part_raised w xs bs ys zs s t k n m from size all fits ys_are is =
+    ap (λ i. put_mid i k xs zs) from
+    ∙ part_over (λ i _. max w (get_or bs i 0)) (λ i _. max w (get_or ys i 0)) xs zs t k n m size all fits (is ∙ ap (λ i. over (λ i _. max w (get_or ys i 0)) (mid_of i k xs) 0 m) from)
+    (λ j h x. ap (max w) (rw ys_are (get_or-take n (drop t bs) j 0 h) ∙ get_or-drop t bs j 0))
 
 -- beds that are booked and given back, and the other way round
 pub stay_fits : (s : PlainStay) → StayOk s → first s + s.nights ≤ 5856

@@ -25,7 +25,7 @@ pub struct Book {
 }
 
 // How many beds a hut has on a night, and how many of them are booked.
-#[derive(Clone, Copy)]
+#[derive(Clone, Copy, PartialEq, Eq)]
 pub struct Night {
     pub beds: u32,
     pub booked: u32,

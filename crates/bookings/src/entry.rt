@@ -5,7 +5,7 @@ mod checks;
 mod same;
 
 // What an entry is known by: a Lamport timestamp, and the hut that made it.
-#[derive(Clone, Copy)]
+#[derive(Clone, Copy, PartialEq, Eq, PartialOrd, Ord)]
 pub struct Mark {
     pub stamp: u32,
     pub hut: u8,
@@ -14,7 +14,7 @@ pub struct Mark {
 }
 
 // Some nights of a hut, one after another.
-#[derive(Clone, Copy)]
+#[derive(Clone, Copy, PartialEq, Eq)]
 pub struct Stay {
     pub hut: u8,
     pub night: u16,
@@ -25,7 +25,7 @@ pub struct Stay {
 }
 
 // Beds wanted for a stay.
-#[derive(Clone, Copy)]
+#[derive(Clone, Copy, PartialEq, Eq)]
 pub struct Choice {
     pub stay: Stay,
     pub beds: u8,
@@ -42,14 +42,14 @@ pub struct Choices {
 }
 
 // How many beds a hut has on some nights.
-#[derive(Clone, Copy)]
+#[derive(Clone, Copy, PartialEq, Eq)]
 pub struct Supply {
     pub stay: Stay,
     pub beds: u8,
     ghost beds_ok: { beds ≤ 255 },
 }
 
-#[derive(Clone, Copy)]
+#[derive(Clone, Copy, PartialEq, Eq)]
 pub enum Kind {
     Book { guest: u32, choices: Choices },
     Cancel { mark: Mark },
@@ -57,7 +57,7 @@ pub enum Kind {
     Beds { supply: Supply },
 }
 
-#[derive(Clone, Copy)]
+#[derive(Clone, Copy, PartialEq, Eq)]
 pub struct Entry {
     pub mark: Mark,
     pub kind: Kind,

@@ -6,7 +6,7 @@ ghost use Rattle.bookings.specs.Outcomes.{plain_grant};
 ghost use Rattle.bookings.specs.Plain.{plain_choices};
 
 use crate::entry::Choices;
-use crate::nights::first_night;
+use crate::nights::nights_of;
 use crate::outcome::Grant;
 
 // The first choice that has its beds free on each of its nights, for a booking or for a change of the one at `replaces`.
@@ -21,9 +21,10 @@ pub(crate) fn first_free(
 {
     let listed = choices.as_slice();
     'choices: for (i, choice) in listed.iter().enumerate() {
-        let from = first_night(&choice.stay);
-        for n in 0..choice.stay.nights as usize {
-            if beds[from + n].saturating_sub(booked[from + n]) < choice.beds as u32 {
+        let there = nights_of(beds, &choice.stay);
+        let taken = nights_of(booked, &choice.stay);
+        for (all, gone) in there.iter().zip(taken) {
+            if all.saturating_sub(*gone) < choice.beds as u32 {
                 continue 'choices;
             }
         }

@@ -4,16 +4,27 @@ ghost use Rattle.bookings.specs.Nights.{first, claim, release, resize, restore, 
 ghost use Rattle.bookings.specs.Plain.{plain_choice, plain_stay, plain_supply};
 
 use crate::entry::{Choice, Stay, Supply};
+use std::ops::Range;
 
 pub const NIGHTS: usize = 366;
 
 pub const PLACES: usize = 5856;
 
-// The place of a stay's first night.
-pub(crate) fn first_night(stay: &Stay) -> usize
-    ensures { (result ≡ first (plain_stay stay.now)) × (result + stay.now.nights ≤ 5856) }
+// The places of a stay's nights.
+fn places_of(stay: &Stay) -> Range<usize>
+    ensures { (result.start ≡ first (plain_stay stay.now)) × (result.end ≡ result.start + stay.now.nights) × (result.end ≤ 5856) }
 {
-    stay.hut as usize * NIGHTS + stay.night as usize
+    let first = stay.hut as usize * NIGHTS + stay.night as usize;
+    first..first + stay.nights as usize
+}
+
+// The numbers of a stay's nights.
+pub(crate) fn nights_of<'a>(numbers: &'a [u32], stay: &Stay) -> &'a [u32]
+    requires { length numbers.now ≡ 5856 }
+    ensures numbers { result.now ≡ numbers_on numbers.now (plain_stay stay.now) }
+    ensures many { length result.now ≡ stay.now.nights }
+{
+    &numbers[places_of(stay)]
 }
 
 // Books the beds of a choice.
@@ -22,10 +33,10 @@ pub(crate) fn claim_beds(booked: &mut [u32], choice: &Choice)
     requires fits { (k : ℕ) → k < choice.now.stay.nights → slice_index booked.old (first (plain_stay choice.now.stay) + k) + choice.now.beds < 2 ^ 32 }
     ensures { booked.new ≡ claim booked.old (plain_choice choice.now) }
 {
-    let from = first_night(&choice.stay);
     let beds = choice.beds as u32;
-    for n in 0..choice.stay.nights as usize {
-        booked[from + n] += beds;
+    let nights = &mut booked[places_of(&choice.stay)];
+    for night in nights.iter_mut() {
+        *night += beds;
     }
 }
 
@@ -35,10 +46,10 @@ pub(crate) fn release_beds(booked: &mut [u32], choice: &Choice)
     requires held { (k : ℕ) → k < choice.now.stay.nights → choice.now.beds ≤ slice_index booked.old (first (plain_stay choice.now.stay) + k) }
     ensures { booked.new ≡ release booked.old (plain_choice choice.now) }
 {
-    let from = first_night(&choice.stay);
     let beds = choice.beds as u32;
-    for n in 0..choice.stay.nights as usize {
-        booked[from + n] -= beds;
+    let nights = &mut booked[places_of(&choice.stay)];
+    for night in nights.iter_mut() {
+        *night -= beds;
     }
 }
 
@@ -48,12 +59,13 @@ pub(crate) fn resize_beds(beds: &mut [u32], booked: &[u32], supply: &Supply) -> 
     ensures after { beds.new ≡ resize beds.old booked.now (plain_supply supply.now) }
     ensures were { take supply.now.stay.nights result ≡ numbers_on beds.old (plain_stay supply.now.stay) }
 {
-    let from = first_night(&supply.stay);
-    let wanted = supply.beds as u32;
+    let booked = nights_of(booked, &supply.stay);
+    let nights = &mut beds[places_of(&supply.stay)];
     let mut were = [0u32; 14];
-    for n in 0..supply.stay.nights as usize {
-        were[n] = beds[from + n];
-        beds[from + n] = wanted.max(booked[from + n]);
+    were[..nights.len()].copy_from_slice(nights);
+    let wanted = supply.beds as u32;
+    for (n, night) in nights.iter_mut().enumerate() {
+        *night = wanted.max(booked[n]);
     }
     were
 }
@@ -63,8 +75,5 @@ pub(crate) fn restore_beds(beds: &mut [u32], stay: &Stay, were: &[u32; 14])
     requires { length beds.old ≡ 5856 }
     ensures { beds.new ≡ restore beds.old (plain_stay stay.now) (take stay.now.nights were.now) }
 {
-    let from = first_night(stay);
-    for n in 0..stay.nights as usize {
-        beds[from + n] = were[n];
-    }
+    beds[places_of(stay)].copy_from_slice(&were[..stay.nights as usize]);
 }

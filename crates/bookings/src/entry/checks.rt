@@ -27,7 +27,7 @@ impl Mark {
     pub fn is_same(&self, other: &Mark) -> bool
         ensures { result ≡ same_mark (plain_mark self.now) (plain_mark other.now) }
     {
-        self.stamp == other.stamp && self.hut == other.hut
+        self == other
     }
 }
 

@@ -1,13 +1,13 @@
-use Rattle.std.proofs.Common.{◌≡◌, ◌+◌, ◌-◌, drop}
+use Rattle.std.proofs.Common.{◌≡◌, ℕ, ◌+◌, ◌-◌, ◌<◌, ◌≤◌, length, get_or, drop}
 use Rattle.bookings.specs.Books.{first_free}
-use Rattle.bookings.specs.Nights.{all_free, is_free}
-use Rattle.bookings.specs.Plain.{plain_choice, plain_choices}
+use Rattle.bookings.specs.Nights.{first}
+use Rattle.bookings.specs.Plain.{plain_choices, plain_stay}
 use Rattle.bookings.proofs.free.first_free.Given as goal
 
--- what is left of the nights decides the choice
-abbrev pub invariant-loop-n : goal.invariant-loop-n
-invariant-loop-n l =
-    all_free l.beds l.booked (l.from + l.n) (l.choice.stay.nights - l.n) l.choice.beds ≡ is_free l.beds l.booked (plain_choice l.choice)
+-- the choice is free on each night so far
+abbrev pub invariant-loop-all : goal.invariant-loop-all
+invariant-loop-all l =
+    (k : ℕ) → k < length l.yielded → l.choice.beds ≤ get_or l.beds (first (plain_stay l.choice.stay) + k) 0 - get_or l.booked (first (plain_stay l.choice.stay) + k) 0
 
 -- what is left of the choices decides the answer
 abbrev pub invariant-choices : goal.invariant-choices

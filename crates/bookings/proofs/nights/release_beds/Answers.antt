@@ -1,15 +1,11 @@
-use Rattle.std.proofs.Common.{◌-◌, refl, rules}
+use Rattle.std.proofs.Common.{refl, rules}
 use Rattle.bookings.specs.Nights.{first}
 use Rattle.bookings.specs.Plain.{plain_stay}
-use Rattle.bookings.proofs.Over.{over_next, over_step}
+use Rattle.bookings.proofs.Over.{part_next, part_over}
 use Rattle.bookings.proofs.nights.release_beds.Goals as goal
 
-pub overflow_sub-booked : goal.overflow_sub-booked
-overflow_sub-booked c =
-    let same =
-    over_next (λ _ x. x - c.args.choice.now.beds) c.loop-n.booked c.args.booked.now c.first_night-from.result (first (plain_stay c.args.choice.now.stay)) c.loop-n.n c.loop-n.invariant c.first_night-from.ensures.0 in
-    let held = c.requires.held c.loop-n.n c.loop-n-test.true in
-    search rules
+pub overflow_sub-night : goal.overflow_sub-night
+overflow_sub-night c = search (rules, part_next, c.requires.held)
 
-pub loop-n-preserved : goal.loop-n-preserved
-loop-n-preserved c = over_step (λ _ x. x - c.args.choice.now.beds) _ _ _ _ _ c.loop-n.invariant refl
+pub returns : goal.returns
+returns c = search (rules, part_over)
