@@ -1,6 +1,7 @@
 -- The text of what is said about letters, and at the start.
 use Rattle.std.specs.Prelude.{ℕ, cond, List, [], ◌++◌, codes, decimal, ◌==◌}
 use Rattle.bookings.specs.Refusals.{number_of}
+use Rattle.bookings.specs.Texts.{reason_text}
 use Rattle.console.specs.declared.answer.letters.Carried.{Carried}
 use Rattle.console.specs.declared.answer.letters.Carried.TheVariants as carries
 use Rattle.console.specs.declared.answer.letters.Taking.{Taking}
@@ -8,7 +9,6 @@ use Rattle.console.specs.declared.answer.letters.Taking.TheVariants as takings
 use Rattle.console.specs.declared.answer.starts.Opened.{Opened}
 use Rattle.console.specs.declared.answer.starts.Usage.{Usage}
 use Rattle.console.specs.declared.answer.starts.Usage.TheVariants as usages
-use Rattle.console.specs.Answers.{reason_text}
 use Rattle.console.specs.Hexes.{hex_text}
 
 -- what befalls letter k

@@ -6,7 +6,7 @@ use entry_log::vector::Vector;
 mod kinds;
 pub mod letter;
 pub mod letters;
-pub(crate) mod shows;
+mod shows;
 pub mod starts;
 
 #[derive(Clone, Copy)]

@@ -3,7 +3,6 @@ ghost use Rattle.std.specs.Prelude.{Some};
 ghost use Rattle.console.specs.LetterAnswers.{carried_text, taking_text};
 
 use super::{Carried, Taking};
-use crate::answer::shows::{Reason, number};
 use std::fmt;
 
 impl fmt::Display for Carried {
@@ -36,11 +35,9 @@ impl fmt::Display for Taking {
             }
             Taking::Tentative { stamp, hut } => write!(f, "taken in pencil {stamp} {hut}"),
             Taking::Skipped { why, stamp, hut } => {
-                write!(f, "passed over {}: {stamp} {hut}", number(*why))
+                write!(f, "passed over {}: {stamp} {hut}", why.number())
             }
-            Taking::Rejected { why } => {
-                write!(f, "kept out {}: {}", number(*why), Reason { why: *why })
-            }
+            Taking::Rejected { why } => write!(f, "kept out {}: {why}", why.number()),
             Taking::Counts {
                 taken,
                 skipped,
