@@ -3,7 +3,7 @@ use Rattle.std.specs.Prelude.{ℕ, List, ◌++◌, codes, decimal}
 use Rattle.bookings.specs.declared.entry.Kind.{Kind}
 use Rattle.bookings.specs.declared.entry.Kind.TheVariants as entries
 use Rattle.bookings.specs.Refusals.{number_of}
-use Rattle.bookings.specs.Texts.{reason_text}
+use Rattle.bookings.specs.Texts.{mark_text, reason_text}
 use Rattle.entry_log.specs.Texts.{stamps_text}
 use Rattle.console.specs.declared.answer.Answer.{Answer}
 use Rattle.console.specs.declared.answer.Answer.TheVariants as answers
@@ -60,22 +60,20 @@ got_text (gots.Choice c h a b k) =
     codes "choice " ++ (decimal c ++ (codes ": hut " ++ (decimal h ++ (codes ", nights " ++ (decimal a ++ (codes " to " ++ (decimal b ++ (codes ", " ++ (decimal k ++ codes " beds")))))))))
 got_text gots.Nothing = codes "nothing"
 got_text gots.Cancelled = codes "cancelled"
-got_text (gots.ChangedBy s h) = codes "changed by " ++ (decimal s ++ (codes " " ++ decimal h))
+got_text (gots.ChangedBy m) = codes "changed by " ++ mark_text m
 got_text gots.NotABooking = codes "not a booking"
 
 abbrev pub answer_text : Answer → List ℕ
-answer_text (answers.Made s h) = codes "made " ++ (decimal s ++ (codes " " ++ decimal h))
+answer_text (answers.Made m) = codes "made " ++ mark_text m
 answer_text (answers.Refused why) = codes "refused " ++ (decimal (number_of why) ++ (codes ": " ++ reason_text why))
-answer_text (answers.Inked s h p) = codes "inked " ++ (decimal s ++ (codes " " ++ (decimal h ++ (codes " at " ++ decimal p))))
+answer_text (answers.Inked m p) = codes "inked " ++ (mark_text m ++ (codes " at " ++ decimal p))
 answer_text answers.NothingTentative = codes "nothing in pencil"
 answer_text (answers.Have c v) = codes "have " ++ (decimal c ++ (codes " " ++ stamps_text v.stamps))
 answer_text (answers.Night h n b k) =
     codes "hut " ++ (decimal h ++ (codes " night " ++ (decimal n ++ (codes ": " ++ (decimal b ++ (codes " beds, " ++ (decimal k ++ codes " booked")))))))
 answer_text answers.EndOfBook = codes "end of book"
-answer_text (answers.Logged p s h t k) =
-    decimal p ++ (codes ": " ++ (decimal s ++ (codes " " ++ (decimal h ++ (codes " " ++ (standing_text t ++ (codes " " ++ kind_text k)))))))
+answer_text (answers.Logged p m t k) = decimal p ++ (codes ": " ++ (mark_text m ++ (codes " " ++ (standing_text t ++ (codes " " ++ kind_text k)))))
 answer_text answers.EndOfLog = codes "end of line"
-answer_text (answers.Got s h t g) =
-    decimal s ++ (codes " " ++ (decimal h ++ (codes " " ++ (standing_text t ++ (codes ": " ++ got_text g)))))
+answer_text (answers.Got m t g) = mark_text m ++ (codes " " ++ (standing_text t ++ (codes ": " ++ got_text g)))
 answer_text (answers.Served v) = codes "served " ++ stamps_text v.stamps
 answer_text (answers.Error e) = codes "error: " ++ expected_text e

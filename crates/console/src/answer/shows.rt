@@ -12,9 +12,9 @@ impl fmt::Display for Answer {
 
     fn fmt<W: fmt::Write>(&self, f: &mut fmt::Formatter<W>) -> fmt::Result {
         match self {
-            Answer::Made { stamp, hut } => write!(f, "made {stamp} {hut}"),
+            Answer::Made { mark } => write!(f, "made {mark}"),
             Answer::Refused { why } => write!(f, "refused {}: {why}", why.number()),
-            Answer::Inked { stamp, hut, place } => write!(f, "inked {stamp} {hut} at {place}"),
+            Answer::Inked { mark, place } => write!(f, "inked {mark} at {place}"),
             Answer::NothingTentative => f.write_str("nothing in pencil"),
             Answer::Have { committed, vector } => write!(f, "have {committed} {vector}"),
             Answer::Night {
@@ -26,18 +26,16 @@ impl fmt::Display for Answer {
             Answer::EndOfBook => f.write_str("end of book"),
             Answer::Logged {
                 place,
-                stamp,
-                hut,
+                mark,
                 standing,
                 kind,
-            } => write!(f, "{place}: {stamp} {hut} {standing} {kind}"),
+            } => write!(f, "{place}: {mark} {standing} {kind}"),
             Answer::EndOfLog => f.write_str("end of line"),
             Answer::Got {
-                stamp,
-                hut,
+                mark,
                 standing,
                 got,
-            } => write!(f, "{stamp} {hut} {standing}: {got}"),
+            } => write!(f, "{mark} {standing}: {got}"),
             Answer::Served { slip } => write!(f, "served {slip}"),
             Answer::Error { expected } => write!(f, "error: {expected}"),
         }
@@ -61,7 +59,7 @@ impl fmt::Display for Got {
             ),
             Got::Nothing => f.write_str("nothing"),
             Got::Cancelled => f.write_str("cancelled"),
-            Got::ChangedBy { stamp, hut } => write!(f, "changed by {stamp} {hut}"),
+            Got::ChangedBy { mark } => write!(f, "changed by {mark}"),
             Got::NotABooking => f.write_str("not a booking"),
         }
     }

@@ -30,13 +30,9 @@ impl fmt::Display for Taking {
 
     fn fmt<W: fmt::Write>(&self, f: &mut fmt::Formatter<W>) -> fmt::Result {
         match self {
-            Taking::Committed { stamp, hut, place } => {
-                write!(f, "taken in ink {stamp} {hut} at {place}")
-            }
-            Taking::Tentative { stamp, hut } => write!(f, "taken in pencil {stamp} {hut}"),
-            Taking::Skipped { why, stamp, hut } => {
-                write!(f, "passed over {}: {stamp} {hut}", why.number())
-            }
+            Taking::Committed { mark, place } => write!(f, "taken in ink {mark} at {place}"),
+            Taking::Tentative { mark } => write!(f, "taken in pencil {mark}"),
+            Taking::Skipped { why, mark } => write!(f, "passed over {}: {mark}", why.number()),
             Taking::Rejected { why } => write!(f, "kept out {}: {why}", why.number()),
             Taking::Counts {
                 taken,
