@@ -7,5 +7,6 @@ pub mod Plain
 pub mod Ranges
 pub mod Reached
 pub mod Refusals
+pub mod Texts
 pub mod Undone
 pub mod Views

@@ -3,6 +3,7 @@ ghost use Rattle.std.specs.Prelude.{◌≡◌, ◌+◌, ◌<◌, ◌≤◌, leng
 
 mod checks;
 mod same;
+mod shows;
 
 // What an entry is known by: a Lamport timestamp, and the hut that made it.
 #[derive(Clone, Copy, PartialEq, Eq, PartialOrd, Ord)]

@@ -11,5 +11,4 @@ pub mod ReadBack
 pub mod SaidBy
 pub mod SlipBack
 pub mod SpacesMore
-pub mod StampsOn
 pub mod WordBounds

@@ -1,10 +1,10 @@
 -- The text of an answer.
-use Rattle.std.specs.Prelude.{ℕ, List, ◌++◌, map, codes, decimal}
+use Rattle.std.specs.Prelude.{ℕ, List, ◌++◌, codes, decimal}
 use Rattle.bookings.specs.declared.entry.Kind.{Kind}
 use Rattle.bookings.specs.declared.entry.Kind.TheVariants as entries
-use Rattle.bookings.specs.declared.refusal.Refusal.{Refusal}
-use Rattle.bookings.specs.declared.refusal.Refusal.TheVariants as refusals
 use Rattle.bookings.specs.Refusals.{number_of}
+use Rattle.bookings.specs.Texts.{mark_text, reason_text}
+use Rattle.entry_log.specs.Texts.{stamps_text}
 use Rattle.console.specs.declared.answer.Answer.{Answer}
 use Rattle.console.specs.declared.answer.Answer.TheVariants as answers
 use Rattle.console.specs.declared.answer.Got.{Got}
@@ -15,7 +15,6 @@ use Rattle.console.specs.declared.answer.Standing.{Standing}
 use Rattle.console.specs.declared.answer.Standing.TheVariants as standings
 use Rattle.console.specs.declared.command.Expected.{Expected}
 use Rattle.console.specs.declared.command.Expected.TheVariants as expected
-use Rattle.console.specs.Lines.{spaced}
 use Rattle.console.specs.declared.verb.Verb.{Verb}
 use Rattle.console.specs.declared.verb.Verb.TheVariants as verbs
 
@@ -34,17 +33,6 @@ kind_name_of (entries.Book g cs) = kinds.Book
 kind_name_of (entries.Cancel m) = kinds.Cancel
 kind_name_of (entries.Change m cs) = kinds.Change
 kind_name_of (entries.Beds s) = kinds.Beds
-
-abbrev pub reason_text : Refusal → List ℕ
-reason_text refusals.Damaged = codes "the letter is damaged"
-reason_text refusals.OutOfRange = codes "out of range"
-reason_text refusals.Known = codes "known already"
-reason_text refusals.NotNext = codes "not the next place in ink"
-reason_text refusals.Gap = codes "what stood before it is not known"
-reason_text refusals.NotPrimary = codes "this hut does not ink"
-reason_text refusals.SlipAhead = codes "the slip knows more than this hut"
-reason_text refusals.Full = codes "no room for more"
-reason_text refusals.Unknown = codes "no such entry is known"
 
 -- a verb with what stands behind it
 abbrev pub form_text : Verb → List ℕ
@@ -67,31 +55,25 @@ expected_text (expected.Form v) = codes "expected: " ++ form_text v
 expected_text expected.HutsFirst = codes "expected huts first"
 expected_text expected.HutsOnce = codes "expected huts only once"
 
--- stamps, each with a space before it
-unfoldable pub stamps_text : List ℕ → List ℕ
-stamps_text ns = spaced (map decimal ns)
-
 abbrev pub got_text : Got → List ℕ
 got_text (gots.Choice c h a b k) =
     codes "choice " ++ (decimal c ++ (codes ": hut " ++ (decimal h ++ (codes ", nights " ++ (decimal a ++ (codes " to " ++ (decimal b ++ (codes ", " ++ (decimal k ++ codes " beds")))))))))
 got_text gots.Nothing = codes "nothing"
 got_text gots.Cancelled = codes "cancelled"
-got_text (gots.ChangedBy s h) = codes "changed by " ++ (decimal s ++ (codes " " ++ decimal h))
+got_text (gots.ChangedBy m) = codes "changed by " ++ mark_text m
 got_text gots.NotABooking = codes "not a booking"
 
 abbrev pub answer_text : Answer → List ℕ
-answer_text (answers.Made s h) = codes "made " ++ (decimal s ++ (codes " " ++ decimal h))
+answer_text (answers.Made m) = codes "made " ++ mark_text m
 answer_text (answers.Refused why) = codes "refused " ++ (decimal (number_of why) ++ (codes ": " ++ reason_text why))
-answer_text (answers.Inked s h p) = codes "inked " ++ (decimal s ++ (codes " " ++ (decimal h ++ (codes " at " ++ decimal p))))
+answer_text (answers.Inked m p) = codes "inked " ++ (mark_text m ++ (codes " at " ++ decimal p))
 answer_text answers.NothingTentative = codes "nothing in pencil"
-answer_text (answers.Have c v) = codes "have " ++ (decimal c ++ stamps_text v.stamps)
+answer_text (answers.Have c v) = codes "have " ++ (decimal c ++ (codes " " ++ stamps_text v.stamps))
 answer_text (answers.Night h n b k) =
     codes "hut " ++ (decimal h ++ (codes " night " ++ (decimal n ++ (codes ": " ++ (decimal b ++ (codes " beds, " ++ (decimal k ++ codes " booked")))))))
 answer_text answers.EndOfBook = codes "end of book"
-answer_text (answers.Logged p s h t k) =
-    decimal p ++ (codes ": " ++ (decimal s ++ (codes " " ++ (decimal h ++ (codes " " ++ (standing_text t ++ (codes " " ++ kind_text k)))))))
+answer_text (answers.Logged p m t k) = decimal p ++ (codes ": " ++ (mark_text m ++ (codes " " ++ (standing_text t ++ (codes " " ++ kind_text k)))))
 answer_text answers.EndOfLog = codes "end of line"
-answer_text (answers.Got s h t g) =
-    decimal s ++ (codes " " ++ (decimal h ++ (codes " " ++ (standing_text t ++ (codes ": " ++ got_text g)))))
-answer_text (answers.Served v) = codes "served" ++ stamps_text v.stamps
+answer_text (answers.Got m t g) = mark_text m ++ (codes " " ++ (standing_text t ++ (codes ": " ++ got_text g)))
+answer_text (answers.Served v) = codes "served " ++ stamps_text v.stamps
 answer_text (answers.Error e) = codes "error: " ++ expected_text e

@@ -8,7 +8,7 @@ use Rattle.console.specs.declared.command.Expected.TheVariants as expected
 use Rattle.console.specs.declared.verb.Verb.{Verb}
 use Rattle.console.specs.declared.verb.Verb.TheVariants.{Huts, At, Book, Cancel, Change, Beds, Ink, Have, Show, Line, Got, Serve}
 use Rattle.console.specs.Numbers.{numbers_of}
-use Rattle.console.specs.Requests.{mark_of, choice_of, choices_of, asked}
+use Rattle.console.specs.Requests.{mark_of, choice_of, choices_of, asked_mark, asked}
 use Rattle.console.specs.Verbs.{verb_of}
 use Rattle.console.specs.Words.{words}
 
@@ -36,7 +36,7 @@ said commands.Have = have
 said (commands.ShowNight h n) = show_night h n
 said commands.Show = show
 said commands.Line = log
-said (commands.Got s h) = got (mark_of s h)
+said (commands.Got m) = got (asked_mark m)
 said (commands.Serve v) = serve v.all
 
 -- what numbers say behind each verb, if their count is right

@@ -3,6 +3,7 @@ use Rattle.std.specs.Prelude.{ℕ, ◌%◌, cond, List, [], ◌∷◌, map, leng
 use Rattle.bookings.specs.Plain.{PlainMark, PlainChoice, PlainKind, book, cancel, change, supply}
 use Rattle.console.specs.declared.request.RawChoice.{RawChoice}
 use Rattle.console.specs.declared.request.RawChoices.{RawChoices}
+use Rattle.console.specs.declared.request.RawMark.{RawMark}
 use Rattle.console.specs.declared.request.Request.{Request}
 use Rattle.console.specs.declared.request.Request.TheVariants.{Book, Cancel, Change, Beds}
 
@@ -12,6 +13,9 @@ choice_of h n k b = record { stay = record { hut = h; night = n; nights = k }; b
 abbrev pub mark_of : ℕ → ℕ → PlainMark
 mark_of s h = record { stamp = s; hut = h }
 
+abbrev pub asked_mark : RawMark → PlainMark
+asked_mark m = mark_of m.stamp m.hut
+
 abbrev pub asked_choice : RawChoice → PlainChoice
 asked_choice c = choice_of c.hut c.night c.nights c.beds
 
@@ -20,8 +24,8 @@ asked_choices cs = map asked_choice (take cs.count cs.all)
 
 abbrev pub asked : Request → PlainKind
 asked (Book g cs) = book g (asked_choices cs)
-asked (Cancel s h) = cancel (mark_of s h)
-asked (Change s h cs) = change (mark_of s h) (asked_choices cs)
+asked (Cancel m) = cancel (asked_mark m)
+asked (Change m cs) = change (asked_mark m) (asked_choices cs)
 asked (Beds c) = supply (asked_choice c)
 
 -- four numbers by four

@@ -1,28 +1,27 @@
 // What a program answers: one line each.
 use crate::command::Expected;
+use bookings::entry::Mark;
 use bookings::refusal::Refusal;
 use entry_log::vector::Vector;
 
 mod kinds;
 pub mod letter;
 pub mod letters;
-pub(crate) mod shows;
+mod shows;
 pub mod starts;
 
 #[derive(Clone, Copy)]
 pub enum Answer {
     // An entry was made, with that mark.
     Made {
-        stamp: u32,
-        hut: u8,
+        mark: Mark,
     },
     Refused {
         why: Refusal,
     },
     // The entry with that mark was committed, and stands at that place.
     Inked {
-        stamp: u32,
-        hut: u8,
+        mark: Mark,
         place: usize,
     },
     NothingTentative,
@@ -42,16 +41,14 @@ pub enum Answer {
     // An entry of the log.
     Logged {
         place: usize,
-        stamp: u32,
-        hut: u8,
+        mark: Mark,
         standing: Standing,
         kind: KindName,
     },
     EndOfLog,
     // What the entry with that mark has got.
     Got {
-        stamp: u32,
-        hut: u8,
+        mark: Mark,
         standing: Standing,
         got: Got,
     },
@@ -91,8 +88,7 @@ pub enum Got {
     Nothing,
     Cancelled,
     ChangedBy {
-        stamp: u32,
-        hut: u8,
+        mark: Mark,
     },
     NotABooking,
 }

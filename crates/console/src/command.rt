@@ -1,6 +1,6 @@
 // What a line asks for.
 use crate::numbers::Numbers;
-use crate::request::Request;
+use crate::request::{RawMark, Request};
 use crate::vector::RawVector;
 use crate::verb::Verb;
 
@@ -24,7 +24,7 @@ pub enum Command {
     // The log.
     Line,
     // What an entry has got.
-    Got { stamp: u64, hut: u64 },
+    Got { mark: RawMark },
     // A guest, with that slip.
     Serve { slip: RawVector },
 }

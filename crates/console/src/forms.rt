@@ -4,7 +4,7 @@ ghost use Rattle.console.specs.Commands.{said, said_if, said_by, huts_of, at_of,
 
 use crate::command::Command;
 use crate::numbers::Numbers;
-use crate::request::{RawChoice, RawChoices, Request};
+use crate::request::{RawChoice, RawChoices, RawMark, Request};
 use crate::vector::RawVector;
 use crate::verb::Verb;
 
@@ -69,10 +69,11 @@ fn cancel(numbers: &[u64]) -> Option<Command>
     let [stamp, hut] = numbers else {
         return None;
     };
-    let request = Request::Cancel {
+    let mark = RawMark {
         stamp: *stamp,
         hut: *hut,
     };
+    let request = Request::Cancel { mark };
     Some(Command::Make { request })
 }
 
@@ -85,11 +86,11 @@ fn change(numbers: &[u64]) -> Option<Command>
     let Some(choices) = RawChoices::read(choices) else {
         return None;
     };
-    let request = Request::Change {
+    let mark = RawMark {
         stamp: *stamp,
         hut: *hut,
-        choices,
     };
+    let request = Request::Change { mark, choices };
     Some(Command::Make { request })
 }
 
@@ -135,13 +136,14 @@ fn show(numbers: &[u64]) -> Option<Command>
 fn got(numbers: &[u64]) -> Option<Command>
     ensures { said_if result ≡ got_of numbers.now }
 {
-    match numbers {
-        [stamp, hut] => Some(Command::Got {
-            stamp: *stamp,
-            hut: *hut,
-        }),
-        _ => None,
-    }
+    let [stamp, hut] = numbers else {
+        return None;
+    };
+    let mark = RawMark {
+        stamp: *stamp,
+        hut: *hut,
+    };
+    Some(Command::Got { mark })
 }
 
 fn serve(numbers: &[u64]) -> Option<Command>

@@ -4,6 +4,13 @@ ghost use Rattle.std.specs.Prelude.{◌≡◌, ◌≤◌, length};
 mod checks;
 mod reads;
 
+// The mark of an entry.
+#[derive(Clone, Copy)]
+pub struct RawMark {
+    pub stamp: u64,
+    pub hut: u64,
+}
+
 // Beds on some nights of a hut.
 #[derive(Clone, Copy)]
 pub struct RawChoice {
@@ -29,12 +36,10 @@ pub enum Request {
         choices: RawChoices,
     },
     Cancel {
-        stamp: u64,
-        hut: u64,
+        mark: RawMark,
     },
     Change {
-        stamp: u64,
-        hut: u64,
+        mark: RawMark,
         choices: RawChoices,
     },
     Beds {

@@ -6,4 +6,5 @@ pub mod Putting
 pub mod Rooms
 pub mod Settling
 pub mod Stamps
+pub mod Texts
 pub mod Views

@@ -2,6 +2,7 @@
 ghost use Rattle.std.specs.Prelude.{◌≡◌, length};
 
 mod methods;
+mod shows;
 
 #[derive(Clone, Copy)]
 pub struct Vector {

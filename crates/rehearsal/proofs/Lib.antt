@@ -1,2 +1,3 @@
+pub mod Gotten
 pub mod Huts
 pub mod Placed

@@ -3,7 +3,8 @@ use Rattle.std.specs.Prelude.{◌≡◌, ℕ, ◌+◌, ◌-◌, Bool, true, fals
 use Rattle.bookings.specs.Books.{PlainBook, book_of, place_from}
 use Rattle.bookings.specs.Nights.{place_of}
 use Rattle.bookings.specs.Outcomes.{PlainGrant, PlainOutcome, holds, nothing, cancelled, changed, freed, resized}
-use Rattle.bookings.specs.Plain.{PlainMark}
+use Rattle.bookings.specs.declared.entry.Mark.{Mark}
+use Rattle.bookings.specs.Plain.{PlainMark, plain_mark}
 use Rattle.bookings.specs.Ranges.{MarkOk}
 use Rattle.console.specs.Checks.{Fits32, StampsFit}
 use Rattle.console.specs.declared.answer.Answer.{Answer}
@@ -25,22 +26,24 @@ abbrev pub choice_told : PlainGrant → Got
 choice_told g =
     gots.Choice (g.number + 1) g.choice.stay.hut g.choice.stay.night (g.choice.stay.night + g.choice.stay.nights - 1) g.choice.beds
 
-abbrev pub got_of : PlainOutcome → Got
-got_of (holds g) = choice_told g
-got_of nothing = gots.Nothing
-got_of (cancelled g) = gots.Cancelled
-got_of (changed g m) = gots.ChangedBy m.stamp m.hut
-got_of (freed p) = gots.NotABooking
-got_of (resized s were) = gots.NotABooking
+-- what an outcome is in words
+abbrev pub IsGot : PlainOutcome → Got → Type 0
+IsGot (holds g) x = x ≡ choice_told g
+IsGot nothing x = x ≡ gots.Nothing
+IsGot (cancelled g) x = x ≡ gots.Cancelled
+IsGot (changed g m) x = (by : Mark) × (x ≡ gots.ChangedBy by) × (plain_mark by ≡ m)
+IsGot (freed p) x = x ≡ gots.NotABooking
+IsGot (resized s were) x = x ≡ gots.NotABooking
 
--- what the entry with a mark has got, if it is known
-abbrev pub got_at : State → PlainMark → Option ℕ → Option Answer
-got_at s m None = None
-got_at s m (Some p) =
-    Some (answers.Got m.stamp m.hut (standing_of (nat_lt p (length s.log.committed))) (got_of (slice_index_or (book_of (all_of s.log)).outcomes p nothing)))
+-- what the entry with a mark has got, at the place where it is known
+abbrev pub GotAt : State → PlainMark → Option ℕ → Answer → Type 0
+GotAt s m None a = ⊥
+GotAt s m (Some p) a =
+    (mark : Mark) × (got : Got) × (a ≡ answers.Got mark (standing_of (nat_lt p (length s.log.committed))) got) × (plain_mark mark ≡ m)
+    × IsGot (slice_index_or (book_of (all_of s.log)).outcomes p nothing) got
 
-abbrev pub got_in : State → PlainMark → Option Answer
-got_in s m = got_at s m (place_from 0 m (marks_of s))
+abbrev pub GotBy : State → PlainMark → Answer → Type 0
+GotBy s m a = GotAt s m (place_from 0 m (marks_of s)) a
 
 -- a mark that can be asked for
 abbrev pub AskedOk : PlainMark → Type 0
@@ -48,7 +51,7 @@ AskedOk m = MarkOk m × Fits32 m.stamp
 
 -- refused by 2 where the mark is out of range, and by 9 where it is not known
 abbrev pub GotRefused : State → PlainMark → ℕ → Type 0
-GotRefused s m n = ((n ≡ 2) × (AskedOk m → ⊥)) ⊎ (AskedOk m × (n ≡ 9) × (got_in s m ≡ None))
+GotRefused s m n = ((n ≡ 2) × (AskedOk m → ⊥)) ⊎ (AskedOk m × (n ≡ 9) × (place_from 0 m (marks_of s) ≡ None))
 
 abbrev pub night_told : PlainBook → ℕ → ℕ → Answer
 night_told b hut night = answers.Night hut night (slice_index b.beds (place_of hut night)) (slice_index b.booked (place_of hut night))
@@ -62,9 +65,9 @@ abbrev pub noted_on : PlainBook → ℕ → ℕ → Option Answer
 noted_on b hut night = cond (is_plain b hut night) None (Some (night_told b hut night))
 
 -- what is said of a mark that was committed, and where there was none
-abbrev pub committed_at : ℕ → Option PlainMark → Answer
+abbrev pub committed_at : ℕ → Option Mark → Answer
 committed_at place None = answers.NothingTentative
-committed_at place (Some m) = answers.Inked m.stamp m.hut place
+committed_at place (Some m) = answers.Inked m place
 
 -- a guest with a slip in range, which knows no more than the replica, has all that it knows noted on it
 abbrev pub ServedBy : State → List ℕ → Answer → Type 0

@@ -1,21 +1,20 @@
 // What a replica is asked, answered in lines.
 ghost use Rattle.std.specs.Prelude.{◌≡◌, ◌<◌, length, Some, MatchResult, nat_lt};
-ghost use Rattle.std.specs.Option.{option_map};
 ghost use Rattle.bookings.specs.Books.{book_of};
 ghost use Rattle.bookings.specs.Outcomes.{plain_outcome};
-ghost use Rattle.bookings.specs.Plain.{plain_mark};
 ghost use Rattle.bookings.specs.Refusals.{number_of};
 ghost use Rattle.console.specs.Answers.{kind_name_of};
-ghost use Rattle.console.specs.Requests.{mark_of};
+ghost use Rattle.console.specs.Requests.{asked_mark};
 ghost use Rattle.entry_log.specs.Logs.{all_of};
 ghost use Rattle.entry_log.specs.Vectors.{vector_of};
 ghost use Rattle.replica.specs.Views.{state_of};
-ghost use Rattle.rehearsal.specs.Told.{AskedOk, GotRefused, standing_of, got_of, got_in, night_told, noted_on, committed_at, ServedBy, ServeRefused};
+ghost use Rattle.rehearsal.specs.Told.{AskedOk, GotRefused, GotBy, IsGot, standing_of, night_told, noted_on, committed_at, ServedBy, ServeRefused};
 
 use bookings::entry::{Entry, Mark};
 use bookings::outcome::Outcome;
 use bookings::refusal::Refusal;
 use console::answer::{Answer, Got, KindName, Standing};
+use console::request::RawMark;
 use console::vector::RawVector;
 use entry_log::vector::Vector;
 use replica::replica::Replica;
@@ -56,28 +55,26 @@ pub fn noted(replica: &Replica, hut: u8, night: u16) -> Option<Answer>
 
 // An entry of a log, of which the first `committed` are committed.
 pub fn logged(place: usize, entry: &Entry, committed: usize) -> Answer
-    ensures { result ≡ Answer.Logged place entry.now.mark.stamp entry.now.mark.hut (standing_of (nat_lt place committed)) (kind_name_of entry.now.kind) }
+    ensures { result ≡ Answer.Logged place entry.now.mark (standing_of (nat_lt place committed)) (kind_name_of entry.now.kind) }
 {
     Answer::Logged {
         place,
-        stamp: entry.mark.stamp,
-        hut: entry.mark.hut,
+        mark: entry.mark,
         standing: standing_of(place < committed),
         kind: KindName::of(&entry.kind),
     }
 }
 
 // What the entry with a mark has got; refused where the mark is out of range (2) or not known (9).
-pub fn got(replica: &Replica, stamp: u64, hut: u64) -> Result<Answer, Refusal>
+pub fn got(replica: &Replica, mark: &RawMark) -> Result<Answer, Refusal>
     ensures { MatchResult result
-        (λ a. AskedOk (mark_of stamp hut) × (got_in (state_of replica.now) (mark_of stamp hut) ≡ Some a))
-        (λ e. GotRefused (state_of replica.now) (mark_of stamp hut) (number_of e)) }
+        (λ a. AskedOk (asked_mark mark.now) × GotBy (state_of replica.now) (asked_mark mark.now) a)
+        (λ e. GotRefused (state_of replica.now) (asked_mark mark.now) (number_of e)) }
 {
-    let mark = Mark::new(stamp, hut)?;
+    let mark = mark.mark()?;
     let told = replica.got(&mark)?;
     Ok(Answer::Got {
-        stamp: mark.stamp,
-        hut: mark.hut,
+        mark,
         standing: standing_of(told.committed),
         got: got_of(&told.outcome),
     })
@@ -85,14 +82,10 @@ pub fn got(replica: &Replica, stamp: u64, hut: u64) -> Result<Answer, Refusal>
 
 // What was committed, at which place, if there was something tentative.
 pub fn committed(first: Option<Mark>, place: usize) -> Answer
-    ensures { result ≡ committed_at place (option_map plain_mark first) }
+    ensures { result ≡ committed_at place first }
 {
     match first {
-        Some(mark) => Answer::Inked {
-            stamp: mark.stamp,
-            hut: mark.hut,
-            place,
-        },
+        Some(mark) => Answer::Inked { mark, place },
         None => Answer::NothingTentative,
     }
 }
@@ -132,7 +125,7 @@ fn standing_of(committed: bool) -> Standing
 
 // What an outcome is in words.
 fn got_of(outcome: &Outcome) -> Got
-    ensures { result ≡ got_of (plain_outcome outcome.now) }
+    ensures { IsGot (plain_outcome outcome.now) result }
 {
     match outcome {
         Outcome::Holds(grant) => {
@@ -147,10 +140,7 @@ fn got_of(outcome: &Outcome) -> Got
         }
         Outcome::Nothing => Got::Nothing,
         Outcome::Cancelled(_) => Got::Cancelled,
-        Outcome::Changed(_, by) => Got::ChangedBy {
-            stamp: by.stamp,
-            hut: by.hut,
-        },
+        Outcome::Changed(_, by) => Got::ChangedBy { mark: *by },
         Outcome::Freed(_) => Got::NotABooking,
         Outcome::Resized(_, _) => Got::NotABooking,
     }

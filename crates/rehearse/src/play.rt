@@ -66,9 +66,7 @@ fn answer(out: &mut impl Write, cast: &mut Cast, command: &Command) -> io::Resul
             say_or_refuse(out, answers::night(cast.meant(), *hut, *night))
         }
         Command::Show => say_book(out, cast.meant()),
-        Command::Got { stamp, hut } => {
-            say_or_refuse(out, answers::got(cast.meant(), *stamp, *hut))
-        }
+        Command::Got { mark } => say_or_refuse(out, answers::got(cast.meant(), mark)),
         Command::Line => say_log(out, cast.meant()),
         Command::Ink => commit(out, cast),
         Command::Have => say(out, answers::have(cast.meant())),
@@ -78,13 +76,7 @@ fn answer(out: &mut impl Write, cast: &mut Cast, command: &Command) -> io::Resul
 
 fn enter(out: &mut impl Write, cast: &mut Cast, request: &Request) -> io::Result<()> {
     match cast.enter(request) {
-        Ok(mark) => say(
-            out,
-            Answer::Made {
-                stamp: mark.stamp,
-                hut: mark.hut,
-            },
-        ),
+        Ok(mark) => say(out, Answer::Made { mark }),
         Err(why) => say(out, Answer::Refused { why }),
     }
 }

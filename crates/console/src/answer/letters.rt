@@ -1,4 +1,5 @@
 // What befalls letters, and the entries in them.
+use bookings::entry::Mark;
 use bookings::refusal::Refusal;
 
 mod shows;
@@ -18,19 +19,16 @@ pub enum Carried {
 pub enum Taking {
     // The entry with that mark is taken.
     Committed {
-        stamp: u32,
-        hut: u8,
+        mark: Mark,
         place: usize,
     },
     Tentative {
-        stamp: u32,
-        hut: u8,
+        mark: Mark,
     },
     // It is skipped, by that refusal.
     Skipped {
         why: Refusal,
-        stamp: u32,
-        hut: u8,
+        mark: Mark,
     },
     // The letter is rejected, or from this entry on.
     Rejected {

@@ -3,18 +3,21 @@ ghost use Rattle.std.specs.Prelude.{◌≡◌, MatchResult};
 ghost use Rattle.bookings.specs.Plain.{plain_mark, plain_choice, plain_supply, plain_choices};
 ghost use Rattle.bookings.specs.Ranges.{MarkOk, ChoiceOk, SupplyOk, ChoicesOk};
 ghost use Rattle.console.specs.Checks.{Fits32, OutOfRange, Checked};
-ghost use Rattle.console.specs.Requests.{mark_of, asked_choice, asked_choices, asked};
+ghost use Rattle.console.specs.Requests.{asked_mark, asked_choice, asked_choices, asked};
 
-use super::{RawChoice, RawChoices, Request};
+use super::{RawChoice, RawChoices, RawMark, Request};
 use bookings::entry::{Choice, Choices, Kind, Mark, Stay, Supply};
 use bookings::refusal::Refusal;
 
-fn mark(stamp: u64, hut: u64) -> Result<Mark, Refusal>
-    ensures { MatchResult result
-        (λ m. MarkOk (mark_of stamp hut) × Fits32 stamp × (plain_mark m ≡ mark_of stamp hut))
-        (λ e. OutOfRange e (MarkOk (mark_of stamp hut) × Fits32 stamp)) }
-{
-    Mark::new(stamp, hut)
+impl RawMark {
+    // The mark, if its numbers are in range.
+    pub fn mark(&self) -> Result<Mark, Refusal>
+        ensures { MatchResult result
+            (λ m. MarkOk (asked_mark self.now) × Fits32 self.now.stamp × (plain_mark m ≡ asked_mark self.now))
+            (λ e. OutOfRange e (MarkOk (asked_mark self.now) × Fits32 self.now.stamp)) }
+    {
+        Mark::new(self.stamp, self.hut)
+    }
 }
 
 impl RawChoice {
@@ -67,16 +70,12 @@ impl Request {
                     choices,
                 })
             }
-            Request::Cancel { stamp, hut } => {
-                let mark = mark(*stamp, *hut)?;
+            Request::Cancel { mark } => {
+                let mark = mark.mark()?;
                 Ok(Kind::Cancel { mark })
             }
-            Request::Change {
-                stamp,
-                hut,
-                choices,
-            } => {
-                let mark = mark(*stamp, *hut)?;
+            Request::Change { mark, choices } => {
+                let mark = mark.mark()?;
                 let choices = choices.wanted()?;
                 Ok(Kind::Change { mark, choices })
             }

@@ -4,7 +4,6 @@ ghost use Rattle.console.specs.SlipAnswers.{slip_answer_text, slip_expected_text
 
 use super::{SlipAnswer, SlipExpected, SlipVerb};
 use crate::answer::Answer;
-use crate::answer::shows::Stamps;
 use std::fmt;
 
 impl fmt::Display for SlipAnswer {
@@ -12,7 +11,7 @@ impl fmt::Display for SlipAnswer {
 
     fn fmt<W: fmt::Write>(&self, f: &mut fmt::Formatter<W>) -> fmt::Result {
         match self {
-            SlipAnswer::Slip { slip } => write!(f, "slip{}", Stamps { vector: *slip }),
+            SlipAnswer::Slip { slip } => write!(f, "slip {slip}"),
             SlipAnswer::Yes => f.write_str("yes"),
             SlipAnswer::Refused { why } => write!(f, "{}", Answer::Refused { why: *why }),
             SlipAnswer::Usage => f.write_str("slip\nmay S0 .. S15\nadd S0 .. S15\nhelp"),
@@ -37,11 +36,11 @@ impl fmt::Display for SlipVerb {
     ghost output = { λ v. Some (slip_form_text v) };
 
     fn fmt<W: fmt::Write>(&self, f: &mut fmt::Formatter<W>) -> fmt::Result {
-        match self {
-            SlipVerb::Slip => f.write_str("slip"),
-            SlipVerb::May => f.write_str("may S0 .. S15"),
-            SlipVerb::Add => f.write_str("add S0 .. S15"),
-            SlipVerb::Help => f.write_str("help"),
-        }
+        f.write_str(match self {
+            SlipVerb::Slip => "slip",
+            SlipVerb::May => "may S0 .. S15",
+            SlipVerb::Add => "add S0 .. S15",
+            SlipVerb::Help => "help",
+        })
     }
 }

@@ -3,7 +3,6 @@ ghost use Rattle.std.specs.Prelude.{Some};
 ghost use Rattle.console.specs.LetterAnswers.{carried_text, taking_text};
 
 use super::{Carried, Taking};
-use crate::answer::shows::{Reason, number};
 use std::fmt;
 
 impl fmt::Display for Carried {
@@ -31,16 +30,10 @@ impl fmt::Display for Taking {
 
     fn fmt<W: fmt::Write>(&self, f: &mut fmt::Formatter<W>) -> fmt::Result {
         match self {
-            Taking::Committed { stamp, hut, place } => {
-                write!(f, "taken in ink {stamp} {hut} at {place}")
-            }
-            Taking::Tentative { stamp, hut } => write!(f, "taken in pencil {stamp} {hut}"),
-            Taking::Skipped { why, stamp, hut } => {
-                write!(f, "passed over {}: {stamp} {hut}", number(*why))
-            }
-            Taking::Rejected { why } => {
-                write!(f, "kept out {}: {}", number(*why), Reason { why: *why })
-            }
+            Taking::Committed { mark, place } => write!(f, "taken in ink {mark} at {place}"),
+            Taking::Tentative { mark } => write!(f, "taken in pencil {mark}"),
+            Taking::Skipped { why, mark } => write!(f, "passed over {}: {mark}", why.number()),
+            Taking::Rejected { why } => write!(f, "kept out {}: {why}", why.number()),
             Taking::Counts {
                 taken,
                 skipped,

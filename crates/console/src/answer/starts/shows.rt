@@ -42,13 +42,11 @@ impl fmt::Display for Usage {
     ghost output = { λ u. Some (usage_text u) };
 
     fn fmt<W: fmt::Write>(&self, f: &mut fmt::Formatter<W>) -> fmt::Result {
-        match self {
-            Usage::Hut => f.write_str(
+        f.write_str(match self {
+            Usage::Hut =>
                 "book G, then up to four choices H N K B\ncancel S H\nchange S H, then up to four choices H N K B\nbeds H N K B\nink\nhave\nletter C S0 .. S15\ntake HEX\nshow, or show H N\nline\ngot S H\nserve S0 .. S15\nhelp",
-            ),
-            Usage::Rehearsal => f.write_str(
+            Usage::Rehearsal =>
                 "huts, then one to four huts\nat I\nwalk I J\nlose I J\nagain K J\ncut K J N\nstop I N",
-            ),
-        }
+        })
     }
 }

@@ -1,0 +1,11 @@
+-- What a vector is printed as: its stamps, with a space between two.
+use Rattle.std.specs.Prelude.{ℕ, List, [], ◌∷◌, ◌++◌, decimal}
+
+-- stamps, each with a space before it
+unfoldable pub stamps_behind : List ℕ → List ℕ
+stamps_behind [] = []
+stamps_behind (n ∷ ns) = 32 ∷ (decimal n ++ stamps_behind ns)
+
+abbrev pub stamps_text : List ℕ → List ℕ
+stamps_text [] = []
+stamps_text (n ∷ ns) = decimal n ++ stamps_behind ns
