@@ -1,6 +1,7 @@
 // Entries and letters as bytes.
 #![tactic(auto)]
 
+mod coded;
 pub mod laws;
 pub mod letter;
 pub mod reader;

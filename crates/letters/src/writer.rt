@@ -1,15 +1,19 @@
 // Writing an entry into a buffer that has room for it.
-ghost use Rattle.std.specs.Prelude.{◌^◌, ◌<◌};
+ghost use Rattle.std.specs.Prelude.{◌^◌, ◌<◌, map};
+ghost use Rattle.std.specs.List.{flat_map};
 ghost use Rattle.bookings.specs.Plain.{plain_mark, plain_stay, plain_choices, plain_kind, plain};
+ghost use Rattle.bookings.specs.Ranges.{Each};
 ghost use Rattle.letters.specs.Buffers.{Room, Written};
 ghost use Rattle.letters.specs.Laws.{KindFits, EntryOk};
 ghost use Rattle.letters.specs.Format.{encode_mark, encode_choice, encode_choices, encode_kind, encode};
 
+use crate::coded::Coded;
 use bookings::entry::{Choices, Entry, Kind, Mark, Stay};
 
 mod lengths;
 mod letters;
 
+pub(crate) use lengths::entry_size;
 pub use letters::{LETTER_ROOM, write_letter};
 
 // No entry takes more bytes than this.
@@ -25,6 +29,17 @@ pub fn put(out: &mut Vec<u8>, part: &[u8])
     }
 }
 
+// Puts values one behind the other.
+pub(crate) fn put_all<V: Coded>(out: &mut Vec<u8>, values: &[V])
+    requires { Room out.old (flat_map V.encoding (map V.plain values.now)) }
+    ensures written { Written out.old out.new (flat_map V.encoding (map V.plain values.now)) }
+    ensures fits { Each V.Fits (map V.plain values.now) }
+{
+    for value in values {
+        value.write(out);
+    }
+}
+
 fn put_mark(out: &mut Vec<u8>, mark: Mark)
     requires { Room out.old (encode_mark (plain_mark mark)) }
     ensures written { Written out.old out.new (encode_mark (plain_mark mark)) }
@@ -35,7 +50,7 @@ fn put_mark(out: &mut Vec<u8>, mark: Mark)
 }
 
 // A stay and a number of beds.
-fn put_choice(out: &mut Vec<u8>, stay: Stay, beds: u8)
+pub(crate) fn put_choice(out: &mut Vec<u8>, stay: Stay, beds: u8)
     requires { Room out.old (encode_choice (record { stay = plain_stay stay; beds = beds })) }
     ensures { Written out.old out.new (encode_choice (record { stay = plain_stay stay; beds = beds })) }
 {
@@ -48,9 +63,7 @@ fn put_choices(out: &mut Vec<u8>, choices: &Choices)
     ensures { Written out.old out.new (encode_choices (plain_choices choices.now)) }
 {
     put(out, &[choices.count]);
-    for choice in choices.as_slice() {
-        put_choice(out, choice.stay, choice.beds);
-    }
+    put_all(out, choices.as_slice());
 }
 
 fn put_kind(out: &mut Vec<u8>, kind: &Kind)

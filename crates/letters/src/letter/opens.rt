@@ -6,7 +6,9 @@ ghost use Rattle.letters.specs.Letters.{damaged, read_body, read_letter, signed}
 
 use super::{LETTER, Letter};
 use crate::reader::Reader;
+use bookings::entry::Entry;
 use bookings::refusal::Refusal;
+use entry_log::waiting::Waiting;
 
 // Whether the last 32 bytes are the digest of all before them.
 fn is_signed(bytes: &[u8]) -> bool
@@ -47,7 +49,7 @@ impl<'a> Letter<'a> {
             return Err(Refusal::Damaged);
         }
         let first = Reader::new(reader.rest());
-        let out = reader.pass_entries(committed)?;
+        let out = reader.pass::<Entry>(committed)?;
         let letter = Letter {
             place,
             committed,
@@ -76,7 +78,7 @@ impl<'a> Letter<'a> {
             return Err(Refusal::Damaged);
         }
         let second = Reader::new(reader.rest());
-        let out = reader.pass_waiting(tentative)?;
+        let out = reader.pass::<Waiting>(tentative)?;
         if out == 0 && reader.rest().len() > 0 {
             return Err(Refusal::Damaged);
         }

@@ -1,7 +1,8 @@
 // Numbers, marks and nights: each is a few bytes, looked at when all of them are there.
-ghost use Rattle.std.specs.Prelude.{◌≡◌, ◌+◌, ◌≤◌, length, drop, MatchResult};
-ghost use Rattle.bookings.specs.Plain.{plain_mark, plain_choice, plain_supply};
+ghost use Rattle.std.specs.Prelude.{◌≡◌, ◌+◌, ◌<◌, ◌≤◌, length, drop, slice_index, MatchResult, IfOk, EachIndex};
+ghost use Rattle.bookings.specs.Plain.{plain_mark, plain_stay, plain_choice, plain_supply};
 ghost use Rattle.letters.specs.Answers.{got, wrong};
+ghost use Rattle.letters.specs.declared.wrong.Wrong.TheVariants.{Short};
 ghost use Rattle.letters.specs.Laws.{Bytes};
 ghost use Rattle.letters.specs.Format.{read_one, read_two, read_four, read_mark, read_choice, read_supply};
 
@@ -23,12 +24,16 @@ impl<'a> Reader<'a> {
         self.rest
     }
 
-    // Goes past n bytes.
-    fn skip(&mut self, n: usize)
-        requires { n ≤ length self.old.rest.now }
-        ensures { self.new.rest.now ≡ drop n self.old.rest.now }
+    // The next N bytes.
+    fn take<const N: usize>(&mut self) -> Result<[u8; N], Wrong>
+        ensures left { MatchResult result
+            (λ _. (N ≤ length self.old.rest.now) × (self.new.rest.now ≡ drop N self.old.rest.now))
+            (λ e. (e ≡ Short) × (length self.old.rest.now < N)) }
+        ensures bytes { IfOk result (λ bytes. EachIndex bytes (λ k. slice_index bytes k ≡ slice_index self.old.rest.now k)) }
     {
-        self.rest = &self.rest[n..];
+        let (bytes, rest) = self.rest.split_first_chunk().ok_or(Wrong::Short)?;
+        self.rest = rest;
+        Ok(*bytes)
     }
 
     // The next byte; all that are left are bytes.
@@ -39,10 +44,7 @@ impl<'a> Reader<'a> {
         ensures bytes { Bytes self.old.rest.now }
     {
         let bytes = self.rest;
-        if bytes.len() < 1 {
-            return Err(Wrong::Short);
-        }
-        self.skip(1);
+        self.take::<1>()?;
         Ok(bytes[0])
     }
 
@@ -51,12 +53,7 @@ impl<'a> Reader<'a> {
             (λ n. read_two self.old.rest.now ≡ got n self.new.rest.now)
             (λ e. read_two self.old.rest.now ≡ wrong e) }
     {
-        let bytes = self.rest;
-        if bytes.len() < 2 {
-            return Err(Wrong::Short);
-        }
-        self.skip(2);
-        Ok(u16::from_be_bytes([bytes[0], bytes[1]]))
+        Ok(u16::from_be_bytes(self.take()?))
     }
 
     pub fn four(&mut self) -> Result<u32, Wrong>
@@ -64,12 +61,7 @@ impl<'a> Reader<'a> {
             (λ n. read_four self.old.rest.now ≡ got n self.new.rest.now)
             (λ e. read_four self.old.rest.now ≡ wrong e) }
     {
-        let bytes = self.rest;
-        if bytes.len() < 4 {
-            return Err(Wrong::Short);
-        }
-        self.skip(4);
-        Ok(u32::from_be_bytes([bytes[0], bytes[1], bytes[2], bytes[3]]))
+        Ok(u32::from_be_bytes(self.take()?))
     }
 
     pub(crate) fn mark(&mut self) -> Result<Mark, Wrong>
@@ -77,17 +69,26 @@ impl<'a> Reader<'a> {
             (λ m. read_mark self.old.rest.now ≡ got (plain_mark m) self.new.rest.now)
             (λ e. read_mark self.old.rest.now ≡ wrong e) }
     {
-        let bytes = self.rest;
-        if bytes.len() < 5 {
-            return Err(Wrong::Short);
-        }
-        let stamp = u32::from_be_bytes([bytes[0], bytes[1], bytes[2], bytes[3]]);
-        let hut = bytes[4];
+        let [a, b, c, d, hut] = self.take::<5>()?;
+        let stamp = u32::from_be_bytes([a, b, c, d]);
         if stamp < 1 || hut >= 16 {
             return Err(Wrong::Out);
         }
-        self.skip(5);
         Ok(Mark { stamp, hut })
+    }
+
+    // A stay and a number of beds.
+    fn stay(&mut self) -> Result<(Stay, u8), Wrong>
+        ensures { MatchResult result
+            (λ v. read_supply self.old.rest.now ≡ got (record { stay = plain_stay v.0; beds = v.1 }) self.new.rest.now)
+            (λ e. read_supply self.old.rest.now ≡ wrong e) }
+    {
+        let [hut, high, low, nights, beds] = self.take::<5>()?;
+        let night = u16::from_be_bytes([high, low]);
+        if hut >= 16 || nights < 1 || nights > 14 || night as u32 + nights as u32 > 366 {
+            return Err(Wrong::Out);
+        }
+        Ok((Stay { hut, night, nights }, beds))
     }
 
     pub(crate) fn supply(&mut self) -> Result<Supply, Wrong>
@@ -95,20 +96,7 @@ impl<'a> Reader<'a> {
             (λ v. read_supply self.old.rest.now ≡ got (plain_supply v) self.new.rest.now)
             (λ e. read_supply self.old.rest.now ≡ wrong e) }
     {
-        let bytes = self.rest;
-        if bytes.len() < 5 {
-            return Err(Wrong::Short);
-        }
-        let hut = bytes[0];
-        let night = u16::from_be_bytes([bytes[1], bytes[2]]);
-        let nights = bytes[3];
-        let beds = bytes[4];
-        let end = night as u32 + nights as u32;
-        if hut >= 16 || nights < 1 || nights > 14 || end > 366 {
-            return Err(Wrong::Out);
-        }
-        self.skip(5);
-        let stay = Stay { hut, night, nights };
+        let (stay, beds) = self.stay()?;
         Ok(Supply { stay, beds })
     }
 
@@ -117,22 +105,10 @@ impl<'a> Reader<'a> {
             (λ v. read_choice self.old.rest.now ≡ got (plain_choice v) self.new.rest.now)
             (λ e. read_choice self.old.rest.now ≡ wrong e) }
     {
-        let bytes = self.rest;
-        if bytes.len() < 5 {
-            return Err(Wrong::Short);
-        }
-        let hut = bytes[0];
-        let night = u16::from_be_bytes([bytes[1], bytes[2]]);
-        let nights = bytes[3];
-        let beds = bytes[4];
-        if hut >= 16 || nights < 1 || nights > 14 || night as u32 + nights as u32 > 366 {
-            return Err(Wrong::Out);
-        }
+        let (stay, beds) = self.stay()?;
         if beds < 1 || beds > 20 {
             return Err(Wrong::Out);
         }
-        self.skip(5);
-        let stay = Stay { hut, night, nights };
         Ok(Choice { stay, beds })
     }
 }

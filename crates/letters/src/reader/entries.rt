@@ -1,30 +1,14 @@
 // Entries, part by part.
-ghost use Rattle.std.specs.Prelude.{◌≡◌, ◌≤◌, MatchResult};
+ghost use Rattle.std.specs.Prelude.{◌≡◌, MatchResult};
 ghost use Rattle.bookings.specs.Plain.{plain_choices, plain_kind, plain};
-ghost use Rattle.letters.specs.Answers.{got, wrong, read_times};
-ghost use Rattle.letters.specs.Format.{read_choice, read_choices, read_book, read_cancel, read_change, read_beds, read_kind, reads};
+ghost use Rattle.letters.specs.Answers.{got, wrong};
+ghost use Rattle.letters.specs.Format.{read_choices, read_book, read_cancel, read_change, read_beds, read_kind, reads};
 
 use super::Reader;
 use crate::wrong::Wrong;
 use bookings::entry::{Choices, Entry, Kind};
 
 impl<'a> Reader<'a> {
-    fn times(&mut self, count: u8) -> Result<Choices, Wrong>
-        requires { count ≤ 4 }
-        ensures { MatchResult result
-            (λ v. read_times read_choice count self.old.rest.now ≡ got (plain_choices v) self.new.rest.now)
-            (λ e. read_times read_choice count self.old.rest.now ≡ wrong e) }
-    {
-        let mut all = Choices::none().all;
-        for i in 0..count {
-            match self.choice() {
-                Ok(choice) => all[i as usize] = choice,
-                Err(e) => return Err(e),
-            }
-        }
-        Ok(Choices { count, all })
-    }
-
     fn choices(&mut self) -> Result<Choices, Wrong>
         ensures { MatchResult result
             (λ v. read_choices self.old.rest.now ≡ got (plain_choices v) self.new.rest.now)
@@ -34,7 +18,9 @@ impl<'a> Reader<'a> {
         if count > 4 {
             return Err(Wrong::Out);
         }
-        self.times(count)
+        let mut all = Choices::none().all;
+        self.fill(&mut all[..count as usize])?;
+        Ok(Choices { count, all })
     }
 
     fn book(&mut self) -> Result<Kind, Wrong>

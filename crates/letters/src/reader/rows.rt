@@ -1,19 +1,31 @@
-// Many entries, and what stood before the tentative ones.
-ghost use Rattle.std.specs.Prelude.{◌≡◌, if◌then◌else◌, MatchResult, nat_eq};
+// Many values, one behind the other.
+ghost use Rattle.std.specs.Prelude.{◌≡◌, if◌then◌else◌, map, length, MatchResult, nat_eq};
 ghost use Rattle.bookings.specs.Refusals.{number_of};
 ghost use Rattle.entry_log.specs.Waits.{plain_waiting};
-ghost use Rattle.letters.specs.Answers.{got, wrong};
-ghost use Rattle.letters.specs.Format.{reads};
+ghost use Rattle.letters.specs.Answers.{got, wrong, read_times};
 ghost use Rattle.letters.specs.Letters.{read_stamps, read_waiting};
 ghost use Rattle.letters.specs.Rows.{read_row, end_of, through, halted, cut};
 
 use super::Reader;
+use crate::coded::Coded;
 use crate::wrong::Wrong;
 use bookings::refusal::Refusal;
 use entry_log::vector::Vector;
 use entry_log::waiting::Waiting;
 
 impl<'a> Reader<'a> {
+    // Reads a value into each of some places.
+    pub(crate) fn fill<V: Coded>(&mut self, places: &mut [V]) -> Result<(), Wrong>
+        ensures { MatchResult result
+            (λ _. read_times V.reading (length places.old) self.old.rest.now ≡ got (map V.plain places.new) self.new.rest.now)
+            (λ e. read_times V.reading (length places.old) self.old.rest.now ≡ wrong e) }
+    {
+        for place in places.iter_mut() {
+            *place = V::read(self)?;
+        }
+        Ok(())
+    }
+
     // Sixteen stamps.
     fn stamps(&mut self) -> Result<[u32; 16], Wrong>
         ensures { MatchResult result
@@ -21,12 +33,7 @@ impl<'a> Reader<'a> {
             (λ e. read_stamps self.old.rest.now ≡ wrong e) }
     {
         let mut all = [0; 16];
-        for i in 0..16usize {
-            match self.four() {
-                Ok(stamp) => all[i] = stamp,
-                Err(e) => return Err(e),
-            }
-        }
+        self.fill(&mut all)?;
         Ok(all)
     }
 
@@ -42,37 +49,17 @@ impl<'a> Reader<'a> {
         Ok(Waiting { entry, stood })
     }
 
-    // Goes past so many entries, or up to the first that is out of range; says how many are kept out.
-    pub(crate) fn pass_entries(&mut self, count: u16) -> Result<u16, Refusal>
+    // Goes past so many values, or up to the first that is out of range; says how many are kept out.
+    pub(crate) fn pass<V: Coded>(&mut self, count: u16) -> Result<u16, Refusal>
         ensures { MatchResult result
-            (λ out. end_of (read_row reads count self.old.rest.now) ≡ (if nat_eq out 0 then through self.new.rest.now else halted out))
-            (λ e. (number_of e ≡ 1) × (end_of (read_row reads count self.old.rest.now) ≡ cut)) }
+            (λ out. end_of (read_row V.reading count self.old.rest.now) ≡ (if nat_eq out 0 then through self.new.rest.now else halted out))
+            (λ e. (number_of e ≡ 1) × (end_of (read_row V.reading count self.old.rest.now) ≡ cut)) }
     {
         for i in 0..count {
-            match self.entry() {
+            match V::read(self) {
                 Ok(_) => {}
-                Err(wrong) => match wrong {
-                    Wrong::Short => return Err(Refusal::Damaged),
-                    Wrong::Out => return Ok(count - i),
-                },
-            }
-        }
-        Ok(0)
-    }
-
-    // The same for tentative entries.
-    pub(crate) fn pass_waiting(&mut self, count: u16) -> Result<u16, Refusal>
-        ensures { MatchResult result
-            (λ out. end_of (read_row read_waiting count self.old.rest.now) ≡ (if nat_eq out 0 then through self.new.rest.now else halted out))
-            (λ e. (number_of e ≡ 1) × (end_of (read_row read_waiting count self.old.rest.now) ≡ cut)) }
-    {
-        for i in 0..count {
-            match self.waiting() {
-                Ok(_) => {}
-                Err(wrong) => match wrong {
-                    Wrong::Short => return Err(Refusal::Damaged),
-                    Wrong::Out => return Ok(count - i),
-                },
+                Err(Wrong::Short) => return Err(Refusal::Damaged),
+                Err(Wrong::Out) => return Ok(count - i),
             }
         }
         Ok(0)

@@ -2,15 +2,15 @@
 ghost use Rattle.std.specs.Prelude.{◌≡◌, ℕ, ◌+◌, ◌*◌, ◌≤◌, map, length};
 ghost use Rattle.std.specs.List.{flat_map};
 ghost use Rattle.bookings.specs.Plain.{plain};
-ghost use Rattle.entry_log.specs.Waits.{plain_waiting};
 ghost use Rattle.letters.specs.Format.{encode};
-ghost use Rattle.letters.specs.Letters.{encode_waiting, encode_letter};
+ghost use Rattle.letters.specs.Letters.{encode_letter};
 ghost use Rattle.letters.specs.Sent.{many, plain_letter};
 
+use crate::coded::Coded;
 use bookings::entry::{Entry, Kind};
 use entry_log::waiting::Waiting;
 
-fn entry_length(entry: &Entry) -> usize
+pub(crate) fn entry_size(entry: &Entry) -> usize
     ensures value { result ≡ length (encode (plain «entry».now)) }
     ensures small { result ≤ 32 }
 {
@@ -22,26 +22,15 @@ fn entry_length(entry: &Entry) -> usize
     }
 }
 
-fn entries_length(entries: &[Entry]) -> usize
-    requires { length entries.now ≤ 1024 }
-    ensures value { result ≡ length (flat_map encode (map plain entries.now)) }
-    ensures small { result ≤ 96 * length entries.now }
+// The bytes of some values.
+fn sizes<V: Coded>(values: &[V]) -> usize
+    requires { length values.now ≤ 1024 }
+    ensures value { result ≡ length (flat_map V.encoding (map V.plain values.now)) }
+    ensures small { result ≤ 96 * length values.now }
 {
     let mut sum = 0;
-    for entry in entries {
-        sum += entry_length(entry);
-    }
-    sum
-}
-
-fn waiting_length(list: &[Waiting]) -> usize
-    requires { length list.now ≤ 1024 }
-    ensures value { result ≡ length (flat_map encode_waiting (map plain_waiting list.now)) }
-    ensures small { result ≤ 96 * length list.now }
-{
-    let mut sum = 0;
-    for waiting in list {
-        sum += entry_length(&waiting.entry) + 64;
+    for value in values {
+        sum += value.size();
     }
     sum
 }
@@ -52,5 +41,5 @@ pub(crate) fn letter_length(committed: &[Entry], tentative: &[Waiting]) -> usize
     ensures value { (place : ℕ) → result ≡ length (encode_letter (plain_letter place committed.now tentative.now)) }
     ensures small { result ≤ 98345 }
 {
-    41 + entries_length(committed) + waiting_length(tentative)
+    41 + sizes(committed) + sizes(tentative)
 }

@@ -12,54 +12,14 @@ ghost use Rattle.letters.specs.declared.unwritten.Unwritten.TheVariants.{TooMany
 ghost use Rattle.letters.specs.Sent.{many, plain_letter, letter_of};
 
 use super::lengths::letter_length;
-use super::{put, write_entry};
+use super::{put, put_all};
 use crate::letter::LETTER;
 use crate::unwritten::Unwritten;
 use bookings::entry::Entry;
-use entry_log::vector::Vector;
 use entry_log::waiting::Waiting;
 
 // A buffer with room for so many bytes has room for every letter: 1,024 entries of the longest kind.
 pub const LETTER_ROOM: usize = 98345;
-
-fn put_entries(out: &mut Vec<u8>, entries: &[Entry])
-    requires { Room out.old (flat_map encode (map plain entries.now)) }
-    ensures written { Written out.old out.new (flat_map encode (map plain entries.now)) }
-    ensures fits { Each EntryOk (map plain entries.now) }
-{
-    for entry in entries {
-        write_entry(out, entry);
-    }
-}
-
-fn put_vector(out: &mut Vec<u8>, vector: &Vector)
-    requires { Room out.old (flat_map four vector.now.stamps) }
-    ensures written { Written out.old out.new (flat_map four vector.now.stamps) }
-    ensures fits { Each (λ n. n < 2 ^ 32) vector.now.stamps }
-{
-    for stamp in vector.stamps() {
-        put(out, &stamp.to_be_bytes());
-    }
-}
-
-fn put_waiting(out: &mut Vec<u8>, waiting: &Waiting)
-    requires { Room out.old (encode_waiting (plain_waiting waiting.now)) }
-    ensures written { Written out.old out.new (encode_waiting (plain_waiting waiting.now)) }
-    ensures fits { WaitingOk (plain_waiting waiting.now) }
-{
-    write_entry(out, &waiting.entry);
-    put_vector(out, &waiting.stood);
-}
-
-fn put_all_waiting(out: &mut Vec<u8>, list: &[Waiting])
-    requires { Room out.old (flat_map encode_waiting (map plain_waiting list.now)) }
-    ensures written { Written out.old out.new (flat_map encode_waiting (map plain_waiting list.now)) }
-    ensures fits { Each WaitingOk (map plain_waiting list.now) }
-{
-    for waiting in list {
-        put_waiting(out, waiting);
-    }
-}
 
 // The letter's bytes before its digest.
 fn put_body(out: &mut Vec<u8>, place: u32, committed: &[Entry], tentative: &[Waiting])
@@ -71,9 +31,9 @@ fn put_body(out: &mut Vec<u8>, place: u32, committed: &[Entry], tentative: &[Wai
     let [high, low] = (committed.len() as u16).to_be_bytes();
     let [a, b, c, d] = place.to_be_bytes();
     put(out, &[66, high, low, a, b, c, d]);
-    put_entries(out, committed);
+    put_all(out, committed);
     put(out, &(tentative.len() as u16).to_be_bytes());
-    put_all_waiting(out, tentative);
+    put_all(out, tentative);
 }
 
 // The place of the first committed entry; 0 if there is none.

@@ -32,7 +32,7 @@ returns c =
     c.in_ok-out.out
     (c.in-Ok-four.place + 0)
     (c.in-Ok.committed - 0)
-    c.pass_entries.new.self.rest.now
+    c.pass.new.self.rest.now
     c.in-Ok.ensures
     c.in-Ok-four.ensures
     c.if-committed-gt-LETTER.false

@@ -9,7 +9,7 @@ use Rattle.letters.proofs.letter.Letter.look_on.Goals as goal
 pub returns : goal.returns
 returns c =
     let l = c.args.self in
-    let t = c.pass_waiting.new.self.rest.now in
+    let t = c.pass.new.self.rest.now in
     let out = c.in_ok-out.out in
     let behind : eqb out 0 ≡ true → length t ≡ 0 =
     elim c.else-out-eq0.branch [

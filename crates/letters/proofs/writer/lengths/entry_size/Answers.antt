@@ -2,7 +2,7 @@ use Rattle.std.proofs.Common.{arith}
 use Rattle.bookings.specs.Plain.{plain_choices}
 use Rattle.letters.proofs.Counts.{count_is}
 use Rattle.letters.proofs.Sizes.{length_choices}
-use Rattle.letters.proofs.writer.lengths.entry_length.Goals as goal
+use Rattle.letters.proofs.writer.lengths.entry_size.Goals as goal
 
 pub returns-in-Book : goal.returns-in-Book
 returns-in-Book c =
