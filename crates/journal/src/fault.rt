@@ -2,12 +2,15 @@
 use std::alloc::AllocError;
 use std::io;
 use std::io::ErrorKind;
+use thiserror::Error;
 
-#[derive(Clone, Copy)]
+#[derive(Clone, Copy, Debug, Error)]
 pub enum Fault {
-    // The disk refused: what it holds behind the last sync is not known.
+    // What the disk holds behind the last sync is not known.
+    #[error("the disk refused: {0}")]
     Disk(ErrorKind),
-    // An earlier write or sync failed; opened again, it goes on.
+    // Opened again, it goes on.
+    #[error("an earlier write or sync failed")]
     Shut,
 }
 

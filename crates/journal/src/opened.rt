@@ -9,13 +9,16 @@ use crate::keeper::Keeper;
 use bookings::refusal::Refusal;
 use replica::fault;
 use std::alloc::AllocError;
+use thiserror::Error;
 
-#[derive(Clone, Copy)]
+#[derive(Clone, Copy, Debug, Error)]
 pub enum NotOpened {
+    #[error("no memory")]
     Memory,
     // There is no such hut.
+    #[error("refused: {0}")]
     Refused(Refusal),
-    // The medium could not be cut or settled.
+    #[error("the journal could not be cut or settled: {0}")]
     Failed(Fault),
 }
 

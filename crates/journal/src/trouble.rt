@@ -4,12 +4,14 @@ ghost use Rattle.journal.specs.declared.trouble.Trouble.TheVariants.{Refused, Fa
 
 use crate::fault::Fault;
 use bookings::refusal::Refusal;
+use thiserror::Error;
 
-#[derive(Clone, Copy)]
+#[derive(Clone, Copy, Debug, Error)]
 pub enum Trouble {
-    // It refuses, and all is as it was.
+    // All is as it was.
+    #[error("refused: {0}")]
     Refused(Refusal),
-    // Its journal failed.
+    #[error("the journal failed: {0}")]
     Failed(Fault),
 }
 

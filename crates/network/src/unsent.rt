@@ -4,12 +4,13 @@ ghost use Rattle.network.specs.declared.unsent.Unsent.TheVariants.{Failed, NoRoo
 
 use journal::fault::Fault;
 use letters::unwritten::Unwritten;
+use thiserror::Error;
 
-#[derive(Clone, Copy)]
+#[derive(Clone, Copy, Debug, Error)]
 pub enum Unsent {
-    // The journal could not be synced.
+    #[error("the journal could not be synced: {0}")]
     Failed(Fault),
-    // The buffer has no room for a letter.
+    #[error("the buffer has no room for a letter")]
     NoRoom,
 }
 

@@ -4,10 +4,13 @@ ghost use Rattle.replica.specs.declared.fault.Fault.TheVariants.{Memory, Refused
 
 use bookings::refusal::Refusal;
 use std::alloc::AllocError;
+use thiserror::Error;
 
-#[derive(Clone, Copy)]
+#[derive(Clone, Copy, Debug, Error)]
 pub enum Fault {
+    #[error("no memory")]
     Memory,
+    #[error("refused: {0}")]
     Refused(Refusal),
 }
 
