@@ -10,13 +10,10 @@ const MOST: usize = 1000;
 
 // After how many steps all was synced for the last time.
 fn last_sync(steps: &[Step]) -> usize {
-    let mut last = 0;
-    for i in 0..steps.len() {
-        if steps[i].is_synced() {
-            last = i + 1;
-        }
-    }
-    last
+    steps
+        .iter()
+        .rposition(|step| step.is_synced())
+        .map_or(0, |last| last + 1)
 }
 
 // Crashes after these steps, once for each number of bytes kept, up to where nothing is lost.

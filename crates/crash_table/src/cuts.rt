@@ -12,10 +12,8 @@ use std::fs::{File, OpenOptions};
 // Opens the journal in a file; says how many bytes were cut off.
 fn open(rt: &HostRuntime, path: &str) -> anyhow::Result<(Keeper<Appender<File>>, usize)> {
     let found = find(rt, ".", path)?;
-    match Keeper::open(rt.alloc(), 0, found.file, found.bytes.as_slice()) {
-        Ok(opened) => Ok((opened.keeper, opened.cut)),
-        Err(_) => Err(anyhow!("not opened")),
-    }
+    let opened = Keeper::open(rt.alloc(), 0, found.file, found.bytes.as_slice())?;
+    Ok((opened.keeper, opened.cut))
 }
 
 // The bytes of the journal that these steps write.

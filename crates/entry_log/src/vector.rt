@@ -4,7 +4,7 @@ ghost use Rattle.std.specs.Prelude.{◌≡◌, length};
 mod methods;
 mod shows;
 
-#[derive(Clone, Copy)]
+#[derive(Clone, Copy, PartialEq, Eq)]
 pub struct Vector {
     stamps: [u32; 16],
     ghost sixteen: { length stamps ≡ 16 },
