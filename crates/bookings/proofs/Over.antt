@@ -1,5 +1,5 @@
 -- What is left at each place where some numbers of a list are replaced, and how that is taken back.
-use Rattle.std.proofs.Common.{◌≡◌, ℕ, zero, suc, ◌+◌, ◌-◌, ◌<◌, ◌≤◌, max, true, false, ◌≢◌, ◌⊎◌, List, ◌++◌, length, get_or, take, drop, set, sym, refl, ap, ◌∙◌, inl, inr, ⊎_elim, add-one, arith, length-drop, length-set, length-take-le}
+use Rattle.std.proofs.Common.{◌≡◌, ℕ, zero, suc, ◌+◌, ◌-◌, ◌<◌, ◌≤◌, max, true, false, ◌≢◌, ◌⊎◌, List, ◌++◌, length, get_or, take, drop, sym, refl, ap, ◌∙◌, inl, inr, ⊎_elim, arith, length-drop, length-set, length-take-le}
 use borrow.Rule.Slice.PartMut.{mid_of, put_mid, same_len_mid}
 use Rattle.std.proofs.Math.ListN.{get_or-append}
 use Rattle.std.proofs.Math.Seq.{get_or-append_right}
@@ -9,14 +9,6 @@ use Rattle.std.proofs.lemmas.Bool.{cases_lt, cases_eq, le-leb, lt-leb, lt-ltb, l
 use Rattle.bookings.specs.Nights.{first, inside, over, claim, release}
 use Rattle.bookings.specs.Plain.{PlainStay, PlainChoice}
 use Rattle.bookings.specs.Ranges.{StayOk}
-
-pub over_more : (f : ℕ → ℕ → ℕ) (xs : List ℕ) (s n : ℕ) → over f xs s (n + 1) ≡ set (over f xs s n) (s + n) (f (s + n) (get_or (over f xs s n) (s + n) 0))
-over_more f xs s n = rw add-one refl
-
--- the same, at what a loop has
-pub over_step :
-    (f : ℕ → ℕ → ℕ) (ys xs : List ℕ) (s n v : ℕ) → ys ≡ over f xs s n → v ≡ f (s + n) (get_or ys (s + n) 0) → set ys (s + n) v ≡ over f xs s (n + 1)
-over_step f ys xs s n v is v-is = rw (v-is, is, over_more f xs s n) refl
 
 pub length_over : (f : ℕ → ℕ → ℕ) (xs : List ℕ) (s n : ℕ) → length (over f xs s n) ≡ length xs
 length_over f xs s zero = refl
