@@ -1,31 +1,22 @@
 -- Where a mark stands, and what the booking there holds.
-use Rattle.std.proofs.Common.{◌≡◌, ℕ, suc, ◌+◌, ◌-◌, ◌<◌, ◌≤◌, Bool, true, false, cond, eqb, List, [], ◌∷◌, map, length, get_or, drop, Some, None, Option, sym, refl, ap, ◌∙◌, add-one, arith}
-use Rattle.std.proofs.lemmas.List.{drop_more, drop_all, drop-map, get_or-map}
+use Rattle.std.proofs.Common.{◌≡◌, ℕ, suc, ◌+◌, ◌-◌, ◌<◌, ◌≤◌, Bool, true, false, cond, eqb, List, [], ◌∷◌, map, length, get_or, Some, None, Option, sym, refl, ap, ◌∙◌, add-one, arith}
+use Rattle.std.specs.List.{position, position_from}
+use Rattle.std.proofs.lemmas.Iterator.Adapters.{position_from-zero}
+use Rattle.std.proofs.lemmas.List.{get_or-map}
 use Rattle.std.proofs.lemmas.Bool.{and_parts, eqb-true}
 use Rattle.bookings.specs.declared.entry.Mark.{Mark}
 use Rattle.bookings.specs.declared.outcome.Outcome.{Outcome}
-use Rattle.bookings.specs.Books.{Standing, same_mark, place_from, standing, standing_at, standing_with}
+use Rattle.bookings.specs.Books.{Standing, same_mark, place_from, standing_at, standing_with}
 use Rattle.bookings.specs.Outcomes.{PlainGrant, PlainOutcome, holds, nothing, cancelled, changed, freed, resized, plain_outcome, held_by}
 use Rattle.bookings.specs.Plain.{PlainMark, plain_mark}
 
-next_mark_lem :
-    (i : ℕ) (ms : List Mark) (m : Mark) → i < length ms → m ≡ get_or ms i m → drop i (map plain_mark ms) ≡ plain_mark m ∷ drop (i + 1) (map plain_mark ms)
-next_mark_lem i ms m h is =
-    drop-map plain_mark i ms ∙ ap (map plain_mark) (drop_more ms i m h ∙ ap (λ d. d ∷ drop (i + 1) ms) (sym is))
-    ∙ ap (λ l. plain_mark m ∷ l) (sym (drop-map plain_mark (i + 1) ms))
+-- the place of a mark is that of the first that passes the test
+place_position_from : (m : PlainMark) (i : ℕ) (ms : List Mark) → position_from (λ n. same_mark m (plain_mark n)) i ms ≡ place_from i m (map plain_mark ms)
+place_position_from m i [] = refl
+place_position_from m i (n ∷ ns) = ap (cond (same_mark m (plain_mark n)) (Some i)) (rw add-one (place_position_from m (suc i) ns))
 
-pub place_here :
-    (n : PlainMark) (j i : ℕ) (ms : List Mark) (m : Mark) → i < length ms → m ≡ get_or ms i m → same_mark n (plain_mark m) ≡ true
-    → place_from j n (drop i (map plain_mark ms)) ≡ Some j
-place_here n j i ms m h is same = rw (next_mark_lem i ms m h is, same) refl
-
-pub place_on :
-    (n : PlainMark) (j i : ℕ) (ms : List Mark) (m : Mark) → i < length ms → m ≡ get_or ms i m → same_mark n (plain_mark m) ≡ false
-    → place_from j n (drop i (map plain_mark ms)) ≡ place_from (j + 1) n (drop (i + 1) (map plain_mark ms))
-place_on n j i ms m h is other = rw (next_mark_lem i ms m h is, other, add-one j) refl
-
-pub place_nowhere : (n : PlainMark) (j i : ℕ) (ms : List Mark) → length ms ≤ i → place_from j n (drop i (map plain_mark ms)) ≡ None
-place_nowhere n j i ms h = rw (drop-map plain_mark i ms, drop_all i ms h) refl
+pub place_position : (m : PlainMark) (ms : List Mark) → position (λ n. same_mark m (plain_mark n)) ms ≡ place_from 0 m (map plain_mark ms)
+place_position m ms = position_from-zero (λ n. same_mark m (plain_mark n)) ms ∙ place_position_from m 0 ms
 
 -- a place that is found is one of the list's
 place_step :
@@ -42,13 +33,6 @@ place_within m i p (n ∷ ns) e =
 pub outcome_there :
     (os : List Outcome) (p : ℕ) (o : Outcome) → p < length os → o ≡ get_or os p o → get_or (map plain_outcome os) p nothing ≡ plain_outcome o
 outcome_there os p o h is = get_or-map plain_outcome os p o nothing h ∙ ap plain_outcome (sym is)
-
-pub stands_there :
-    (ms : List PlainMark) (os : List Outcome) (m : PlainMark) (p : ℕ) (o : Outcome) → Some p ≡ place_from 0 m ms → p < length os → o ≡ get_or os p o
-    → standing ms (map plain_outcome os) m ≡ standing_with p (held_by (plain_outcome o))
-stands_there ms os m p o found h is =
-    ap (standing_at (map plain_outcome os)) (sym found)
-    ∙ ap (λ x. standing_with p (held_by x)) (outcome_there os p o h is)
 
 -- what holds a choice is a booking that holds it
 pub held_is : (o : PlainOutcome) (g : PlainGrant) → Some g ≡ held_by o → o ≡ holds g

@@ -1,22 +1,14 @@
 -- What is left at each place where some numbers of a list are replaced, and how that is taken back.
-use Rattle.std.proofs.Common.{◌≡◌, ℕ, zero, suc, ◌+◌, ◌-◌, ◌<◌, ◌≤◌, max, true, false, ◌≢◌, ◌⊎◌, List, [], ◌∷◌, ◌++◌, length, get_or, take, drop, set, sym, refl, ap, ◌∙◌, inl, inr, ⊎_elim, add-one, arith, length-drop, length-set, length-take-le}
+use Rattle.std.proofs.Common.{◌≡◌, ℕ, zero, suc, ◌+◌, ◌-◌, ◌<◌, ◌≤◌, max, true, false, ◌≢◌, ◌⊎◌, List, ◌++◌, length, get_or, take, drop, sym, refl, ap, ◌∙◌, inl, inr, ⊎_elim, arith, length-drop, length-set, length-take-le}
 use borrow.Rule.Slice.PartMut.{mid_of, put_mid, same_len_mid}
 use Rattle.std.proofs.Math.ListN.{get_or-append}
 use Rattle.std.proofs.Math.Seq.{get_or-append_right}
 use Rattle.std.proofs.lemmas.Grind.{same_number_lists}
-use Rattle.std.proofs.lemmas.List.{get_or-set_same, get_or-set_other, get_or-take, get_or-drop, take_more, take_more_set, same_lists, get_or_default}
+use Rattle.std.proofs.lemmas.List.{get_or-set_same, get_or-set_other, get_or-take, get_or-drop, same_lists, get_or_default}
 use Rattle.std.proofs.lemmas.Bool.{cases_lt, cases_eq, le-leb, lt-leb, lt-ltb, le-ltb}
 use Rattle.bookings.specs.Nights.{first, inside, over, claim, release}
 use Rattle.bookings.specs.Plain.{PlainStay, PlainChoice}
 use Rattle.bookings.specs.Ranges.{StayOk}
-
-pub over_more : (f : ℕ → ℕ → ℕ) (xs : List ℕ) (s n : ℕ) → over f xs s (n + 1) ≡ set (over f xs s n) (s + n) (f (s + n) (get_or (over f xs s n) (s + n) 0))
-over_more f xs s n = rw add-one refl
-
--- the same, at what a loop has
-pub over_step :
-    (f : ℕ → ℕ → ℕ) (ys xs : List ℕ) (s n v : ℕ) → ys ≡ over f xs s n → v ≡ f (s + n) (get_or ys (s + n) 0) → set ys (s + n) v ≡ over f xs s (n + 1)
-over_step f ys xs s n v is v-is = rw (v-is, is, over_more f xs s n) refl
 
 pub length_over : (f : ℕ → ℕ → ℕ) (xs : List ℕ) (s n : ℕ) → length (over f xs s n) ≡ length xs
 length_over f xs s zero = refl
@@ -25,9 +17,6 @@ length_over f xs s (suc n) = simp length-set (length_over f xs s n)
 pub over_past : (f : ℕ → ℕ → ℕ) (xs : List ℕ) (s n k : ℕ) → s + n ≤ k → get_or (over f xs s n) k 0 ≡ get_or xs k 0
 over_past f xs s zero k h = refl
 over_past f xs s (suc n) k h = let ne : k ≢ s + n = omega arith in rw get_or-set_other (over_past f xs s n k (omega arith))
-
-pub over_next : (f : ℕ → ℕ → ℕ) (ys xs : List ℕ) (s t n : ℕ) → ys ≡ over f xs s n → s ≡ t → get_or ys (s + n) 0 ≡ get_or xs (t + n) 0
-over_next f ys xs s t n is from = rw (is, ← from) (over_past f xs s n (s + n) (omega arith))
 
 pub over_below : (f : ℕ → ℕ → ℕ) (xs : List ℕ) (s n k : ℕ) → k < s → get_or (over f xs s n) k 0 ≡ get_or xs k 0
 over_below f xs s zero k h = refl

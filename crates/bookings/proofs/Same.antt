@@ -5,9 +5,8 @@ use Rattle.std.proofs.lemmas.Bool.{and_parts, and_from}
 use Rattle.std.proofs.lemmas.Bool.Decides.{Decides-eqb}
 use Rattle.std.specs.Bool.{Decides}
 use Rattle.std.specs.Cmp.Derive.Mapped.{pointwise-map}
-use Rattle.std.specs.Cmp.Lexicographic.{pointwise}
 use Rattle.bookings.specs.Books.{same_mark}
-use Rattle.bookings.specs.Plain.{PlainMark, PlainStay, PlainChoice, PlainKind, PlainEntry, book, cancel, change, supply, plain_mark, plain_choice, plain_choices, plain_supply, plain_kind, plain, listed}
+use Rattle.bookings.specs.Plain.{PlainMark, PlainStay, PlainChoice, PlainEntry, cancel, supply, plain_mark, plain_choice, plain_choices, plain_supply, plain_kind, plain, listed}
 use Rattle.bookings.specs.contracts.entry.EntryPartialEq.TheImpl as entry
 use Rattle.bookings.specs.contracts.entry.KindPartialEq.TheImpl as kind
 use Rattle.bookings.specs.contracts.entry.same.ChoicesPartialEq.TheImpl as choices

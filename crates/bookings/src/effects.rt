@@ -23,9 +23,7 @@ fn grant_first(
     ensures value { option_map plain_grant result ≡ first_free beds.now booked.old replaces 0 (plain_choices choices.now) }
     ensures after { booked.new ≡ claimed booked.old (option_map plain_grant result) }
 {
-    let Some(grant) = first_free(beds, booked, choices, replaces) else {
-        return None;
-    };
+    let grant = first_free(beds, booked, choices, replaces)?;
     claim_beds(booked, &grant.choice);
     Some(grant)
 }
@@ -63,9 +61,9 @@ fn change(
     requires covered { Covered booked.old (map plain_outcome outcomes.old) }
     requires few { Few booked.old }
     ensures { ◌≡◌ {A = Effect}
-        (record { beds = beds.entry.now; booked = booked.new; outcomes = map plain_outcome outcomes.new; own = plain_outcome result })
+        (record { beds = beds.now; booked = booked.new; outcomes = map plain_outcome outcomes.new; own = plain_outcome result })
         (changing (plain_mark own) (plain_choices choices.now)
-        (record { beds = beds.entry.now; booked = booked.old; marks = map plain_mark marks.now; outcomes = map plain_outcome outcomes.old })
+        (record { beds = beds.now; booked = booked.old; marks = map plain_mark marks.now; outcomes = map plain_outcome outcomes.old })
         (standing (map plain_mark marks.now) (map plain_outcome outcomes.old) (plain_mark mark.now))) }
 {
     let Some(found) = find_standing(marks, outcomes, mark) else {
@@ -94,15 +92,14 @@ pub(crate) fn carry_out(
     requires covered { Covered booked.old (map plain_outcome outcomes.old) }
     requires few { Few booked.old }
     ensures { ◌≡◌ {A = Effect}
-        (record { beds = beds.exit.now; booked = booked.new; outcomes = map plain_outcome outcomes.new; own = plain_outcome result })
+        (record { beds = beds.new; booked = booked.new; outcomes = map plain_outcome outcomes.new; own = plain_outcome result })
         (effect_of (plain_mark «entry».now.mark) (plain_kind «entry».now.kind)
-        (record { beds = beds.entry.now; booked = booked.old; marks = map plain_mark marks.now; outcomes = map plain_outcome outcomes.old })) }
+        (record { beds = beds.old; booked = booked.old; marks = map plain_mark marks.now; outcomes = map plain_outcome outcomes.old })) }
 {
     match &entry.kind {
-        Kind::Book { choices, .. } => match grant_first(beds, booked, choices, None) {
-            Some(grant) => Outcome::Holds(grant),
-            None => Outcome::Nothing,
-        },
+        Kind::Book { choices, .. } => {
+            grant_first(beds, booked, choices, None).map_or(Outcome::Nothing, Outcome::Holds)
+        }
         Kind::Cancel { mark } => cancel(booked, marks, outcomes, mark),
         Kind::Change { mark, choices } => change(
             beds, booked, marks, outcomes, entry.mark, mark, choices,

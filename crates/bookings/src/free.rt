@@ -23,8 +23,8 @@ pub(crate) fn first_free(
     'choices: for (i, choice) in listed.iter().enumerate() {
         let there = nights_of(beds, &choice.stay);
         let taken = nights_of(booked, &choice.stay);
-        for (all, gone) in there.iter().zip(taken) {
-            if all.saturating_sub(*gone) < choice.beds as u32 {
+        for (beds, booked) in there.iter().zip(taken) {
+            if beds.saturating_sub(*booked) < u32::from(choice.beds) {
                 continue 'choices;
             }
         }

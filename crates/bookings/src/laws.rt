@@ -2,57 +2,41 @@
 ghost use Rattle.bookings.specs.Laws.{NeverOverbooked, BookedIsHeld, GetsFirstFree, UndoGivesBack, OldMarkDoesNothing, ChangeNotFreeDoesNothing, UnknownMarkDoesNothing, BedsAreSet};
 
 // On no night are more beds booked than there are.
-pub fn never_overbooked() -> u8
+pub fn never_overbooked()
     ensures { NeverOverbooked }
-{
-    0
-}
+{}
 
 // Booked on a night is the sum of the beds that bookings hold there.
-pub fn booked_is_held() -> u8
+pub fn booked_is_held()
     ensures { BookedIsHeld }
-{
-    0
-}
+{}
 
 // A booking gets the first of its choices that is free, and nothing only where none is.
-pub fn gets_first_free() -> u8
+pub fn gets_first_free()
     ensures { GetsFirstFree }
-{
-    0
-}
+{}
 
 // Undoing the entry that was done last gives back the very book.
-pub fn undo_gives_back() -> u8
+pub fn undo_gives_back()
     ensures { UndoGivesBack }
-{
-    0
-}
+{}
 
 // A cancellation or change of a booking that was cancelled or changed already does nothing.
-pub fn old_mark_does_nothing() -> u8
+pub fn old_mark_does_nothing()
     ensures { OldMarkDoesNothing }
-{
-    0
-}
+{}
 
 // A change whose choices are not free, with the booking's own beds given back, does nothing.
-pub fn change_not_free_does_nothing() -> u8
+pub fn change_not_free_does_nothing()
     ensures { ChangeNotFreeDoesNothing }
-{
-    0
-}
+{}
 
 // A cancellation or change of a mark that does not stand before it does nothing.
-pub fn unknown_mark_does_nothing() -> u8
+pub fn unknown_mark_does_nothing()
     ensures { UnknownMarkDoesNothing }
-{
-    0
-}
+{}
 
 // A change of beds sets those of its nights, but to no fewer than are booked, and leaves all others.
-pub fn beds_are_set() -> u8
+pub fn beds_are_set()
     ensures { BedsAreSet }
-{
-    0
-}
+{}

@@ -14,8 +14,8 @@ pub const PLACES: usize = 5856;
 fn places_of(stay: &Stay) -> Range<usize>
     ensures { (result.start ≡ first (plain_stay stay.now)) × (result.end ≡ result.start + stay.now.nights) × (result.end ≤ 5856) }
 {
-    let first = stay.hut as usize * NIGHTS + stay.night as usize;
-    first..first + stay.nights as usize
+    let first = usize::from(stay.hut) * NIGHTS + usize::from(stay.night);
+    first..first + usize::from(stay.nights)
 }
 
 // The numbers of a stay's nights.
@@ -33,7 +33,7 @@ pub(crate) fn claim_beds(booked: &mut [u32], choice: &Choice)
     requires fits { (k : ℕ) → k < choice.now.stay.nights → slice_index booked.old (first (plain_stay choice.now.stay) + k) + choice.now.beds < 2 ^ 32 }
     ensures { booked.new ≡ claim booked.old (plain_choice choice.now) }
 {
-    let beds = choice.beds as u32;
+    let beds = u32::from(choice.beds);
     let nights = &mut booked[places_of(&choice.stay)];
     for night in nights.iter_mut() {
         *night += beds;
@@ -46,7 +46,7 @@ pub(crate) fn release_beds(booked: &mut [u32], choice: &Choice)
     requires held { (k : ℕ) → k < choice.now.stay.nights → choice.now.beds ≤ slice_index booked.old (first (plain_stay choice.now.stay) + k) }
     ensures { booked.new ≡ release booked.old (plain_choice choice.now) }
 {
-    let beds = choice.beds as u32;
+    let beds = u32::from(choice.beds);
     let nights = &mut booked[places_of(&choice.stay)];
     for night in nights.iter_mut() {
         *night -= beds;
@@ -63,7 +63,7 @@ pub(crate) fn resize_beds(beds: &mut [u32], booked: &[u32], supply: &Supply) -> 
     let nights = &mut beds[places_of(&supply.stay)];
     let mut were = [0u32; 14];
     were[..nights.len()].copy_from_slice(nights);
-    let wanted = supply.beds as u32;
+    let wanted = u32::from(supply.beds);
     for (n, night) in nights.iter_mut().enumerate() {
         *night = wanted.max(booked[n]);
     }
@@ -75,5 +75,5 @@ pub(crate) fn restore_beds(beds: &mut [u32], stay: &Stay, were: &[u32; 14])
     requires { length beds.old ≡ 5856 }
     ensures { beds.new ≡ restore beds.old (plain_stay stay.now) (take stay.now.nights were.now) }
 {
-    beds[places_of(stay)].copy_from_slice(&were[..stay.nights as usize]);
+    beds[places_of(stay)].copy_from_slice(&were[..usize::from(stay.nights)]);
 }

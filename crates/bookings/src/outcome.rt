@@ -43,11 +43,7 @@ impl Outcome {
     {
         match self {
             Outcome::Holds(grant) => Some(*grant),
-            Outcome::Nothing => None,
-            Outcome::Cancelled(_) => None,
-            Outcome::Changed(_, _) => None,
-            Outcome::Freed(_) => None,
-            Outcome::Resized(_, _) => None,
+            _ => None,
         }
     }
 
@@ -56,12 +52,8 @@ impl Outcome {
         ensures { option_map plain_grant result ≡ once_held_by (plain_outcome self.now) }
     {
         match self {
-            Outcome::Holds(_) => None,
-            Outcome::Nothing => None,
-            Outcome::Cancelled(grant) => Some(*grant),
-            Outcome::Changed(grant, _) => Some(*grant),
-            Outcome::Freed(_) => None,
-            Outcome::Resized(_, _) => None,
+            Outcome::Cancelled(grant) | Outcome::Changed(grant, _) => Some(*grant),
+            _ => None,
         }
     }
 }

@@ -14,12 +14,7 @@ pub(crate) fn place_of(marks: &[Mark], mark: &Mark) -> Option<usize>
     ensures value { result ≡ place_from 0 (plain_mark mark.now) (map plain_mark marks.now) }
     ensures within { IfSome result (λ p. p < length marks.now) }
 {
-    for (i, m) in marks.iter().enumerate() {
-        if mark.is_same(m) {
-            return Some(i);
-        }
-    }
-    None
+    marks.iter().position(|m| mark == m)
 }
 
 // The booking with a mark, if it holds a choice.
@@ -28,12 +23,7 @@ pub(crate) fn find_standing(marks: &[Mark], outcomes: &[Outcome], mark: &Mark) -
     ensures value { option_map plain_standing result ≡ standing (map plain_mark marks.now) (map plain_outcome outcomes.now) (plain_mark mark.now) }
     ensures there { IfSome result (λ s. (s.place < length outcomes.now) × (slice_index_or (map plain_outcome outcomes.now) s.place nothing ≡ holds (plain_grant s.grant))) }
 {
-    let Some(place) = place_of(marks, mark) else {
-        return None;
-    };
-    let outcome = &outcomes[place];
-    let Some(grant) = outcome.held() else {
-        return None;
-    };
+    let place = place_of(marks, mark)?;
+    let grant = outcomes[place].held()?;
     Some(Standing { place, grant })
 }

@@ -13,11 +13,7 @@ fn once_held_at(outcomes: &[Outcome], place: usize) -> Option<Grant>
     ensures value { option_map plain_grant result ≡ once_held_by (slice_index_or (map plain_outcome outcomes.now) place nothing) }
     ensures within { OnSome result (place < length outcomes.now) }
 {
-    if place >= outcomes.len() {
-        return None;
-    }
-    let outcome = &outcomes[place];
-    outcome.once_held()
+    outcomes.get(place)?.once_held()
 }
 
 // The booking at a place, if it was cancelled or changed, holds its choice again.
@@ -46,8 +42,8 @@ pub(crate) fn take_back(
     requires long { length booked.old ≡ 5856 }
     requires covered { Covered booked.old (plain_outcome last.now ∷ []) }
     requires few { Few booked.old }
-    ensures { ◌≡◌ {A = Rest} (record { beds = beds.exit.now; booked = booked.new; outcomes = map plain_outcome outcomes.new })
-        (taken_back (plain_outcome last.now) (record { beds = beds.entry.now; booked = booked.old; outcomes = map plain_outcome outcomes.old })) }
+    ensures { ◌≡◌ {A = Rest} (record { beds = beds.new; booked = booked.new; outcomes = map plain_outcome outcomes.new })
+        (taken_back (plain_outcome last.now) (record { beds = beds.old; booked = booked.old; outcomes = map plain_outcome outcomes.old })) }
 {
     match last {
         Outcome::Holds(grant) => {

@@ -2,6 +2,7 @@ pub mod Covering
 pub mod Inserting
 pub mod Known
 pub mod Marks
+pub mod Places
 pub mod Putting
 pub mod Rooms
 pub mod Settling

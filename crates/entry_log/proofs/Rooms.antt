@@ -1,9 +1,17 @@
 -- What moving entries up leaves.
-use Rattle.std.proofs.Common.{◌≡◌, ℕ, suc, ◌+◌, ◌-◌, ◌<◌, ◌≤◌, List, [], ◌∷◌, ◌++◌, length, take, drop, ap, ◌∙◌, arith, length-drop, length-take}
+use Rattle.std.proofs.Common.{◌≡◌, ℕ, suc, ◌+◌, ◌-◌, ◌<◌, ◌≤◌, List, [], ◌∷◌, ◌++◌, length, get_or, take, drop, set, refl, ap, ◌∙◌, arith, length-drop, length-take}
 use borrow.Rule.Slice.PartMut.{put_mid}
-use Rattle.std.proofs.lemmas.List.{take-take, drop-drop, take-append-le, drop-append-le, drop_all, append-nil, take_all, length_push}
+use Rattle.std.proofs.lemmas.List.{take-take, drop-drop, take-append-le, drop-append-le, drop_more, drop_all, append-nil, take_all, length_push}
 use Rattle.std.specs.List.{insert}
 use Rattle.entry_log.specs.Room.{shifted, moved_to}
+
+-- the last goes round to the front, and is written over
+pub rotated_first :
+    {X : Type 0} (xs ys : List X) (x : X) → 0 < length xs → ys ≡ drop (length xs - 1) xs ++ take (length xs - 1) xs → set ys 0 x ≡ shifted xs x
+rotated_first xs ys x some is =
+    let last : drop (length xs - 1) xs ≡ get_or xs (length xs - 1) x ∷ [] =
+    drop_more xs (length xs - 1) x (omega arith) ∙ ap (λ l. get_or xs (length xs - 1) x ∷ l) (drop_all (length xs - 1 + 1) xs (omega arith)) in
+    rw (is, last) refl
 
 pub moved_is :
     {X : Type 0} (xs ys : List X) (place last : ℕ) (x : X) → place ≤ last → last < length xs → ys ≡ shifted (take ((last + 1) - place) (drop place xs)) x

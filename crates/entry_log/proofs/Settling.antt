@@ -88,9 +88,6 @@ module _ (xs : List PlainEntry) (c : ℕ) (e : PlainEntry) (there : c < length x
   pub next_mark_lem : first_mark (drop c xs) ≡ Some e.mark
   next_mark_lem = ap first_mark next_is
 
-  pub next_entry : first_entry (drop c xs) ≡ Some e
-  next_entry = ap first_entry next_is
-
   pub next_ascends : ascends (drop c xs) ≡ true → ascends (drop (c + 1) xs) ≡ true
   next_ascends sorted = (and_parts (all_behind e.mark (drop (c + 1) xs)) (ascends (drop (c + 1) xs)) (ap ascends (sym next_is) ∙ sorted)).1
 

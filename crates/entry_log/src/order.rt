@@ -11,7 +11,7 @@ use bookings::entry::{Entry, Mark};
 pub(crate) fn is_before(a: &Mark, b: &Mark) -> bool
     ensures { result ≡ before (plain_mark a.now) (plain_mark b.now) }
 {
-    a.stamp < b.stamp || (a.stamp == b.stamp && a.hut < b.hut)
+    a < b
 }
 
 // The place of a mark among entries that are sorted: behind the last that it does not come before.
@@ -19,13 +19,7 @@ pub(crate) fn spot_of(part: &[Entry], mark: &Mark) -> usize
     requires { ascends (map plain part.now) ≡ true }
     ensures { result ≡ spot (plain_mark mark.now) (map plain part.now) }
 {
-    for i in (0..part.len()).rev() {
-        let entry = &part[i];
-        if !is_before(mark, &entry.mark) {
-            return i + 1;
-        }
-    }
-    0
+    part.partition_point(|entry| !is_before(mark, &entry.mark))
 }
 
 // The place of the entry with a mark.
@@ -33,10 +27,5 @@ pub(crate) fn position_of(part: &[Entry], mark: &Mark) -> Option<usize>
     ensures { MatchOption result (has (plain_mark mark.now) (map plain part.now) ≡ false)
         (λ p. (p < length part.now) × ((d : PlainEntry) → same_mark (plain_mark mark.now) (slice_index_or (map plain part.now) p d).mark ≡ true)) }
 {
-    for (i, entry) in part.iter().enumerate() {
-        if mark.is_same(&entry.mark) {
-            return Some(i);
-        }
-    }
-    None
+    part.iter().position(|entry| mark == &entry.mark)
 }

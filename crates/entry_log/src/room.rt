@@ -10,9 +10,7 @@ fn put_first(part: &mut [Entry], entry: Entry)
     requires { 0 < length part.old }
     ensures { part.new ≡ shifted part.old «entry» }
 {
-    for i in (1..part.len()).rev() {
-        part[i] = part[i - 1];
-    }
+    part.rotate_right(1);
     part[0] = entry;
 }
 
@@ -22,7 +20,7 @@ pub(crate) fn move_to(entries: &mut [Entry], place: usize, last: usize, entry: E
     requires within { last < length entries.old }
     ensures { entries.new ≡ moved_to entries.old place last «entry» }
 {
-    put_first(&mut entries[place..last + 1], entry);
+    put_first(&mut entries[place..=last], entry);
 }
 
 // Puts an entry at a place, and moves what stood there and behind it up by one, into room that was reserved.

@@ -34,10 +34,7 @@ impl Book {
         ensures { MatchOption result (length (book_in self.now).outcomes ≤ place)
             (λ o. (place < length (book_in self.now).outcomes) × (plain_outcome o ≡ slice_index_or (book_in self.now).outcomes place nothing)) }
     {
-        if place >= self.outcomes.len() {
-            return None;
-        }
-        Some(self.outcomes[place])
+        self.outcomes.get(place).copied()
     }
 
     // A hut's beds on a night.

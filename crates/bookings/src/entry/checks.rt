@@ -15,11 +15,12 @@ impl Mark {
             (λ m. plain_mark m ≡ record { stamp = stamp; hut = hut })
             (λ e. (number_of e ≡ 2) × ((stamp < 4294967296) × MarkOk (record { stamp = stamp; hut = hut }) → ⊥)) }
     {
-        if stamp < 1 || stamp > 4294967295 || hut > 15 {
+        let stamp = u32::try_from(stamp).map_err(|_| Refusal::OutOfRange)?;
+        if stamp < 1 || hut > 15 {
             return Err(Refusal::OutOfRange);
         }
         Ok(Mark {
-            stamp: stamp as u32,
+            stamp,
             hut: hut as u8,
         })
     }
@@ -37,10 +38,8 @@ impl Kind {
         ensures { option_map plain_mark result ≡ named_by (plain_kind self.now) }
     {
         match self {
-            Kind::Book { .. } => None,
-            Kind::Cancel { mark } => Some(*mark),
-            Kind::Change { mark, .. } => Some(*mark),
-            Kind::Beds { .. } => None,
+            Kind::Cancel { mark } | Kind::Change { mark, .. } => Some(*mark),
+            Kind::Book { .. } | Kind::Beds { .. } => None,
         }
     }
 }
@@ -118,7 +117,7 @@ impl Choices {
         if self.count >= 4 {
             return Err(Refusal::OutOfRange);
         }
-        self.all[self.count as usize] = choice;
+        self.all[usize::from(self.count)] = choice;
         self.count += 1;
         Ok(self)
     }
@@ -127,6 +126,6 @@ impl Choices {
     pub fn as_slice(&self) -> &[Choice]
         ensures { result.now ≡ listed self.now }
     {
-        &self.all[0..self.count as usize]
+        &self.all[..usize::from(self.count)]
     }
 }

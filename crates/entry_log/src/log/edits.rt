@@ -37,8 +37,7 @@ impl Log {
         ensures value { result ≡ self.now.committed + spot (plain_mark mark.now) (log_in self.now).tentative }
         ensures within { result ≤ vec_len self.now.entries }
     {
-        let committed = self.committed;
-        committed + spot_of(&self.entries.as_slice()[committed..], mark)
+        self.committed + spot_of(self.tentative_part(), mark)
     }
 
     // Puts a tentative entry where it belongs, and says at which place that is.
@@ -59,12 +58,9 @@ impl Log {
         ensures mark { option_map plain_mark result ≡ first_mark (log_in self.old).tentative }
         ensures same { all_of (log_in self.new) ≡ all_of (log_in self.old) }
     {
-        if self.committed >= self.entries.len() {
-            return None;
-        }
-        let entry = self.entries[self.committed];
+        let mark = self.tentative_part().first()?.mark;
         self.committed += 1;
-        Some(entry.mark)
+        Some(mark)
     }
 
     // Puts an entry that is tentative, at the place `last`, to the end of the committed ones.
@@ -95,11 +91,8 @@ impl Log {
             (λ p. (self.now.committed ≤ p) × (p < vec_len self.now.entries)
             × ((d : PlainEntry) → same_mark (plain_mark mark.now) (slice_index_or (map plain self.now.entries.items) p d).mark ≡ true)) }
     {
-        let committed = self.committed;
-        let Some(place) = position_of(&self.entries.as_slice()[committed..], mark) else {
-            return None;
-        };
-        Some(committed + place)
+        let place = position_of(self.tentative_part(), mark)?;
+        Some(self.committed + place)
     }
 
     // Puts an entry to the end of the committed ones, and takes it from the tentative ones, if it is there.

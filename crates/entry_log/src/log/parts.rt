@@ -12,16 +12,14 @@ impl Log {
     pub fn committed_part(&self) -> &[Entry]
         ensures { map plain result.now ≡ (log_in self.now).committed }
     {
-        let entries = self.entries.as_slice();
-        &entries[0..self.committed]
+        &self.entries[..self.committed]
     }
 
     // The tentative entries, by their marks.
     pub fn tentative_part(&self) -> &[Entry]
         ensures { map plain result.now ≡ (log_in self.now).tentative }
     {
-        let entries = self.entries.as_slice();
-        &entries[self.committed..]
+        &self.entries[self.committed..]
     }
 
     // Whether the first tentative entry is this very one.
@@ -29,10 +27,6 @@ impl Log {
         ensures sound { result ≡ true → first_entry (log_in self.now).tentative ≡ Some (plain «entry».now) }
         ensures complete { first_entry (log_in self.now).tentative ≡ Some (plain «entry».now) → result ≡ true }
     {
-        if self.committed >= self.entries.len() {
-            return false;
-        }
-        let next = self.entries[self.committed];
-        next.is_same(entry)
+        self.tentative_part().first() == Some(entry)
     }
 }

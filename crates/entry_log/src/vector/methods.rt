@@ -17,14 +17,14 @@ impl Vector {
     pub fn reaches(&self, mark: &Mark) -> bool
         ensures { result ≡ nat_le mark.now.stamp (slice_index self.now.stamps mark.now.hut) }
     {
-        mark.stamp <= self.stamps[mark.hut as usize]
+        mark.stamp <= self.stamps[usize::from(mark.hut)]
     }
 
     // Notes a mark: the stamp of its hut is then at least as high.
     pub fn note(&mut self, mark: &Mark)
         ensures { self.new.stamps ≡ noted (plain_mark mark.now) self.old.stamps }
     {
-        let hut = mark.hut as usize;
+        let hut = usize::from(mark.hut);
         self.stamps[hut] = self.stamps[hut].max(mark.stamp);
     }
 
@@ -32,20 +32,18 @@ impl Vector {
     pub fn covers(&self, other: &Vector) -> bool
         ensures { result ≡ covers self.now.stamps other.now.stamps }
     {
-        for h in 0..16 {
-            if other.stamps[h] > self.stamps[h] {
-                return false;
-            }
-        }
-        true
+        self.stamps
+            .iter()
+            .zip(&other.stamps)
+            .all(|(ours, theirs)| ours >= theirs)
     }
 
     // Raises each stamp to another vector's, where that is higher.
     pub fn join(&mut self, other: &Vector)
         ensures { self.new.stamps ≡ joined_with self.old.stamps other.now.stamps }
     {
-        for h in 0..16 {
-            self.stamps[h] = self.stamps[h].max(other.stamps[h]);
+        for (h, stamp) in self.stamps.iter_mut().enumerate() {
+            *stamp = (*stamp).max(other.stamps[h]);
         }
     }
 }

@@ -5,8 +5,8 @@ use Rattle.bookings.specs.Plain.{plain_choices, plain_stay}
 use Rattle.bookings.proofs.free.first_free.Given as goal
 
 -- the choice is free on each night so far
-abbrev pub invariant-loop-all : goal.invariant-loop-all
-invariant-loop-all l =
+abbrev pub invariant-loop-beds : goal.invariant-loop-beds
+invariant-loop-beds l =
     (k : ℕ) → k < length l.yielded → l.choice.beds ≤ get_or l.beds (first (plain_stay l.choice.stay) + k) 0 - get_or l.booked (first (plain_stay l.choice.stay) + k) 0
 
 -- what is left of the choices decides the answer

@@ -1,6 +1,4 @@
-use Rattle.std.proofs.Common.{◌+◌, refl, rules}
-use Rattle.bookings.specs.Nights.{first}
-use Rattle.bookings.specs.Plain.{plain_stay}
+use Rattle.std.proofs.Common.{rules}
 use Rattle.bookings.proofs.Over.{part_next, part_over}
 use Rattle.bookings.proofs.nights.claim_beds.Goals as goal
 

@@ -1,19 +1,14 @@
-use Rattle.std.proofs.Common.{◌≡◌, false, map, get_or, sym, ap, ◌∙◌, arith, below_more}
-use lib.ListN.{length-map}
+use Rattle.std.proofs.Common.{◌≡◌, true, false, rules, tests}
+use Rattle.std.proofs.lemmas.Iterator.{YieldsList-from_slice, IsFirst-from_position}
 use Rattle.bookings.specs.Books.{same_mark}
-use Rattle.bookings.specs.Plain.{PlainEntry, plain, plain_mark}
-use Rattle.entry_log.proofs.Putting.{has_nowhere}
-use Rattle.entry_log.proofs.Views.{entry_there}
+use Rattle.bookings.specs.Plain.{plain_mark}
+use Rattle.bookings.specs.declared.entry.Entry.{Entry}
+use Rattle.entry_log.proofs.Places.{position_told}
 use Rattle.entry_log.proofs.order.position_of.Goals as goal
 
-pub returns-then-is_same : goal.returns-then-is_same
-returns-then-is_same c =
-    (omega arith, λ d. ap (λ (x : PlainEntry). same_mark (plain_mark c.args.mark.now) x.mark) (entry_there c.args.part.now c.loop-i.i c.index-part-i.result d (omega arith) c.index-part-i.is) ∙ sym c.if-is_same.ensures)
-
-pub loop-i-preserved : goal.loop-i-preserved
-loop-i-preserved c = λ k d h.
-    below_more (λ j. same_mark (plain_mark c.args.mark.now) (get_or (map plain c.args.part.now) j d).mark ≡ false) c.loop-i.i (λ j l. c.loop-i.invariant j d l)
-    (ap (λ (x : PlainEntry). same_mark (plain_mark c.args.mark.now) x.mark) (entry_there c.args.part.now c.loop-i.i c.index-part-i.result d (omega arith) c.index-part-i.is) ∙ sym c.if-is_same.ensures) k h
-
 pub returns : goal.returns
-returns c = has_nowhere (plain_mark c.args.mark.now) (map plain c.args.part.now) (λ k d h. c.loop-i.invariant k d (omega (arith, h, length-map c.args.part.now plain)))
+returns c =
+    let m = plain_mark c.args.mark.now in
+    position_told m c.args.part.now c.position.result
+    (IsFirst-from_position _ _ _ (λ (e : Entry). same_mark m (plain_mark e.mark) ≡ true) (λ (e : Entry). same_mark m (plain_mark e.mark) ≡ false) c.position.ensures.ran (YieldsList-from_slice c.args.part.now cc)
+    (λ x q called. search (rules, tests)) (λ x q called. search (rules, tests)))

@@ -4,16 +4,14 @@ use Rattle.bookings.specs.Plain.{plain, plain_mark}
 use Rattle.entry_log.specs.Logs.{spot}
 use Rattle.entry_log.specs.Order.{ascends}
 use Rattle.entry_log.proofs.Marks.{spot_within}
-use Rattle.entry_log.proofs.Views.{end_is}
 use Rattle.entry_log.proofs.log.Log.place_for.Goals as goal
 use Rattle.entry_log.proofs.log.Log.place_for.Goals.{After-spot_of}
 
 pub spot_of-requires : goal.spot_of-requires
-spot_of-requires c = ap ascends (end_is c.as_slice.result.now (vec_items c.args.self.now.entries) c.args.self.now.committed c.as_slice.ensures.value) ∙ c.args.self.now.sorted
+spot_of-requires c = ap ascends c.tentative_part.ensures ∙ c.args.self.now.sorted
 
 found : (c : After-spot_of) → c.spot_of.result ≡ spot (plain_mark c.args.mark.now) (drop c.args.self.now.committed (map plain (vec_items c.args.self.now.entries)))
-found c =
-    c.spot_of.ensures ∙ ap (spot (plain_mark c.args.mark.now)) (end_is c.as_slice.result.now (vec_items c.args.self.now.entries) c.args.self.now.committed c.as_slice.ensures.value)
+found c = c.spot_of.ensures ∙ ap (spot (plain_mark c.args.mark.now)) c.tentative_part.ensures
 
 within : (c : After-spot_of) → c.args.self.now.committed + c.spot_of.result ≤ vec_len c.args.self.now.entries
 within c =
