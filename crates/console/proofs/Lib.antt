@@ -5,6 +5,7 @@ pub mod HexBack
 pub mod HexOn
 pub mod HexText
 pub mod InRange
+pub mod Languages
 pub mod NumbersOn
 pub mod Pieces
 pub mod ReadBack
@@ -12,3 +13,4 @@ pub mod SaidBy
 pub mod SlipBack
 pub mod SpacesMore
 pub mod WordBounds
+pub mod WrittenWords

@@ -1,8 +1,5 @@
 -- One space more changes no word.
 use Rattle.std.proofs.Common.{◌≡◌, ℕ, Bool, true, false, eqb, List, [], ◌∷◌, ◌++◌, refl, ap}
-use Rattle.console.specs.Commands.{by_words}
-use Rattle.console.specs.Lines.{SpacesDoNotMatter}
-use Rattle.console.specs.Slips.{slip_by_words, SlipSpacesDoNotMatter}
 use Rattle.console.specs.Words.{space, ended, words_after}
 
 -- two texts have the same words behind the same byte, if they do behind every beginning
@@ -12,17 +9,11 @@ same_behind :
 same_behind b s t w true e same = simp e (ap (ended w) (same []))
 same_behind b s t w false e same = simp e (same (w ++ b ∷ []))
 
-double_space : (a b w : List ℕ) → words_after w (a ++ space ∷ space ∷ b) ≡ words_after w (a ++ space ∷ b)
+pub double_space : (a b w : List ℕ) → words_after w (a ++ space ∷ space ∷ b) ≡ words_after w (a ++ space ∷ b)
 double_space [] b w = refl
 double_space (c ∷ a) b w =
     same_behind c (a ++ space ∷ space ∷ b) (a ++ space ∷ b) w (eqb c space) refl (λ v. double_space a b v)
 
-last_space : (a w : List ℕ) → words_after w (a ++ space ∷ []) ≡ words_after w a
+pub last_space : (a w : List ℕ) → words_after w (a ++ space ∷ []) ≡ words_after w a
 last_space [] w = refl
 last_space (c ∷ a) w = same_behind c (a ++ space ∷ []) a w (eqb c space) refl (λ v. last_space a v)
-
-pub spaces_do_not_matter_lem : SpacesDoNotMatter
-spaces_do_not_matter_lem = (λ a b. ap by_words (double_space a b []), λ a. refl, λ a. ap by_words (last_space a []))
-
-pub slip_spaces_do_not_matter_lem : SlipSpacesDoNotMatter
-slip_spaces_do_not_matter_lem = (λ a b. ap slip_by_words (double_space a b []), λ a. refl, λ a. ap slip_by_words (last_space a []))

@@ -1,5 +1,6 @@
 -- What a line says.
-use Rattle.std.specs.Prelude.{ℕ, cond, List, [], ◌∷◌, length, take, drop, Some, None, Ok, Err, Option, Result, ◌==◌, nat_lt, slice_index}
+use Rattle.std.specs.Prelude.{ℕ, cond, List, length, take, drop, Some, None, Option, Result, ◌==◌, nat_lt, slice_index}
+use Rattle.std.specs.Option.{option_map}
 use Rattle.bookings.specs.Plain.{PlainMark, PlainChoice, PlainKind, book, cancel, change, supply}
 use Rattle.console.specs.declared.command.Command.{Command}
 use Rattle.console.specs.declared.command.Command.TheVariants as commands
@@ -7,10 +8,9 @@ use Rattle.console.specs.declared.command.Expected.{Expected}
 use Rattle.console.specs.declared.command.Expected.TheVariants as expected
 use Rattle.console.specs.declared.verb.Verb.{Verb}
 use Rattle.console.specs.declared.verb.Verb.TheVariants.{Huts, At, Book, Cancel, Change, Beds, Ink, Have, Show, Line, Got, Serve}
-use Rattle.console.specs.Numbers.{numbers_of}
+use Rattle.console.specs.Languages.{Language, parsed_in, told_as, alone_in, sixteen_in}
 use Rattle.console.specs.Requests.{mark_of, choice_of, choices_of, asked_mark, asked}
 use Rattle.console.specs.Verbs.{verb_of}
-use Rattle.console.specs.Words.{words}
 
 pub data Said : Type 0 where
   pass : Said
@@ -69,7 +69,7 @@ beds_of ns =
 
 -- of a verb that stands alone
 abbrev pub alone_of : Said → List ℕ → Option Said
-alone_of s ns = cond (length ns == 0) (Some s) None
+alone_of s ns = alone_in s ns
 
 abbrev pub show_of : List ℕ → Option Said
 show_of ns = cond (length ns == 0) (Some show) (cond (length ns == 2) (Some (show_night (slice_index ns 0) (slice_index ns 1))) None)
@@ -78,7 +78,7 @@ abbrev pub got_of : List ℕ → Option Said
 got_of ns = cond (length ns == 2) (Some (got (mark_of (slice_index ns 0) (slice_index ns 1)))) None
 
 abbrev pub serve_of : List ℕ → Option Said
-serve_of ns = cond (length ns == 16) (Some (serve ns)) None
+serve_of ns = sixteen_in serve ns
 
 abbrev pub said_by : Verb → List ℕ → Option Said
 said_by Huts ns = huts_of ns
@@ -94,31 +94,14 @@ said_by Line ns = alone_of log ns
 said_by Got ns = got_of ns
 said_by Serve ns = serve_of ns
 
-abbrev pub said_if : Option Command → Option Said
-said_if None = None
-said_if (Some c) = Some (said c)
-
--- what a line of that verb says, or which form it should have had
-abbrev pub with_numbers : Verb → Option (List ℕ) → Option Said
-with_numbers v None = None
-with_numbers v (Some ns) = said_by v ns
-
-abbrev pub in_form : Verb → Option Said → Result Said Expected
-in_form v None = Err (expected.Form v)
-in_form v (Some s) = Ok s
-
-abbrev pub by_verb : Option Verb → List (List ℕ) → Result Said Expected
-by_verb None ws = Err expected.Command
-by_verb (Some v) ws = in_form v (with_numbers v (numbers_of 18 ws))
-
--- a line without words says nothing, nor does one whose first word begins with '#'
-abbrev pub by_words : List (List ℕ) → Result Said Expected
-by_words [] = Ok pass
-by_words (w ∷ ws) = cond (slice_index w 0 == 35) (Ok pass) (by_verb (verb_of w) ws)
+abbrev pub hut_lines : Language Verb Said Expected
+hut_lines = record { pass = pass; verb_of = verb_of; said_by = said_by; no_verb = expected.Command; no_form = expected.Form }
 
 abbrev pub parsed : List ℕ → Result Said Expected
-parsed line = by_words (words line)
+parsed line = parsed_in hut_lines line
 
 abbrev pub told : Result Command Expected → Result Said Expected
-told (Ok c) = Ok (said c)
-told (Err e) = Err e
+told r = told_as said r
+
+abbrev pub said_if : Option Command → Option Said
+said_if c = option_map said c

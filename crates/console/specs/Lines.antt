@@ -1,21 +1,16 @@
 -- The line that a command is written as, and laws of reading lines.
-use Rattle.std.specs.Prelude.{◌≡◌, ℕ, ◌<◌, ◌≤◌, List, [], ◌∷◌, ◌++◌, map, length, Ok, decimal}
+use Rattle.std.specs.Prelude.{◌≡◌, ℕ, ◌<◌, ◌≤◌, List, [], ◌∷◌, length}
 use Rattle.bookings.specs.Plain.{PlainChoice, PlainKind, book, cancel, change, supply}
 use Rattle.bookings.specs.Ranges.{Each}
 use Rattle.console.specs.declared.verb.Verb.{Verb}
 use Rattle.console.specs.declared.verb.Verb.TheVariants.{Huts, At, Book, Cancel, Change, Beds, Ink, Have, Show, Line, Got, Serve}
-use Rattle.console.specs.Commands.{Said, pass, huts, at, make, ink, have, show_night, show, log, got, serve, parsed}
+use Rattle.console.specs.Commands.{Said, pass, huts, at, make, ink, have, show_night, show, log, got, serve, hut_lines}
+use Rattle.console.specs.Languages.{written_by, SpacesDoNotMatterIn, CommentsSayNothingIn}
 use Rattle.console.specs.Verbs.{name_of}
-use Rattle.console.specs.Words.{space}
-
--- words, each with a space before it
-abbrev pub spaced : List (List ℕ) → List ℕ
-spaced [] = []
-spaced (w ∷ ws) = space ∷ (w ++ spaced ws)
 
 -- a verb and numbers, with single spaces between them
 abbrev pub written : Verb → List ℕ → List ℕ
-written v ns = name_of v ++ spaced (map decimal ns)
+written v ns = written_by (name_of v) ns
 
 abbrev pub choice_numbers : List PlainChoice → List ℕ
 choice_numbers [] = []
@@ -65,10 +60,8 @@ Sayable (serve ns) = Each TenDigits ns × (length ns ≡ 16)
 
 -- one space more, between words, in front or behind, changes nothing
 abbrev pub SpacesDoNotMatter : Type 0
-SpacesDoNotMatter =
-    ((a b : List ℕ) → parsed (a ++ space ∷ space ∷ b) ≡ parsed (a ++ space ∷ b)) × ((a : List ℕ) → parsed (space ∷ a) ≡ parsed a)
-    × ((a : List ℕ) → parsed (a ++ space ∷ []) ≡ parsed a)
+SpacesDoNotMatter = SpacesDoNotMatterIn hut_lines
 
 -- 35 is '#'
 abbrev pub CommentsSayNothing : Type 0
-CommentsSayNothing = (text : List ℕ) → parsed (35 ∷ text) ≡ Ok pass
+CommentsSayNothing = CommentsSayNothingIn hut_lines

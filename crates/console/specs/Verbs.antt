@@ -1,6 +1,6 @@
 -- Which word asks for what.
-use Rattle.std.specs.Prelude.{ℕ, cond, List, Some, None, codes, Option}
-use Rattle.std.specs.Str.{bytes_eq}
+use Rattle.std.specs.Prelude.{ℕ, List, None, codes, Option}
+use Rattle.console.specs.Languages.{named_or}
 use Rattle.console.specs.declared.verb.Verb.{Verb}
 use Rattle.console.specs.declared.verb.Verb.TheVariants.{Huts, At, Book, Cancel, Change, Beds, Ink, Have, Show, Line, Got, Serve}
 
@@ -20,7 +20,7 @@ name_of Got = codes "got"
 name_of Serve = codes "serve"
 
 abbrev pub or_else : Verb → List ℕ → Option Verb → Option Verb
-or_else v w o = cond (bytes_eq w (name_of v)) (Some v) o
+or_else v w o = named_or name_of v w o
 
 abbrev pub other_verb_of : List ℕ → Option Verb
 other_verb_of w = or_else Ink w (or_else Have w (or_else Show w (or_else Line w (or_else Got w (or_else Serve w None)))))

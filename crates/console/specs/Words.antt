@@ -9,6 +9,11 @@ abbrev pub ended : List ℕ → List (List ℕ) → List (List ℕ)
 ended [] ws = ws
 ended (b ∷ bs) ws = (b ∷ bs) ∷ ws
 
+-- words, each with a space before it
+abbrev pub spaced : List (List ℕ) → List ℕ
+spaced [] = []
+spaced (w ∷ ws) = space ∷ (w ++ spaced ws)
+
 -- the words of a text, where w stands before it and is a part of its first word
 abbrev pub words_after : List ℕ → List ℕ → List (List ℕ)
 words_after w [] = ended w []

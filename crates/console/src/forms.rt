@@ -1,15 +1,16 @@
 // The form of each command: which numbers stand behind its verb.
 ghost use Rattle.std.specs.Prelude.{◌≡◌, take};
-ghost use Rattle.console.specs.Commands.{said, said_if, said_by, huts_of, at_of, book_of, cancel_of, change_of, beds_of, alone_of, show_of, got_of, serve_of};
+ghost use Rattle.console.specs.Commands.{said_if, said_by, huts_of, at_of, book_of, cancel_of, change_of, beds_of, show_of, got_of, serve_of};
 
 use crate::command::Command;
+use crate::language::alone;
 use crate::numbers::Numbers;
 use crate::request::{RawChoice, RawChoices, RawMark, Request};
 use crate::vector::RawVector;
 use crate::verb::Verb;
 
 // The command of a verb and numbers, unless their count is wrong.
-pub fn by_verb(verb: Verb, numbers: Numbers) -> Option<Command>
+pub(crate) fn by_verb(verb: Verb, numbers: Numbers) -> Option<Command>
     ensures { said_if result ≡ said_by verb (take numbers.count numbers.all) }
 {
     match verb {
@@ -53,9 +54,7 @@ fn book(numbers: &[u64]) -> Option<Command>
     let [guest, choices @ ..] = numbers else {
         return None;
     };
-    let Some(choices) = RawChoices::read(choices) else {
-        return None;
-    };
+    let choices = RawChoices::read(choices)?;
     let request = Request::Book {
         guest: *guest,
         choices,
@@ -83,9 +82,7 @@ fn change(numbers: &[u64]) -> Option<Command>
     let [stamp, hut, choices @ ..] = numbers else {
         return None;
     };
-    let Some(choices) = RawChoices::read(choices) else {
-        return None;
-    };
+    let choices = RawChoices::read(choices)?;
     let mark = RawMark {
         stamp: *stamp,
         hut: *hut,
@@ -108,16 +105,6 @@ fn beds(numbers: &[u64]) -> Option<Command>
     };
     let request = Request::Beds { supply };
     Some(Command::Make { request })
-}
-
-// A verb that stands alone.
-fn alone(command: Command, numbers: &[u64]) -> Option<Command>
-    ensures { said_if result ≡ alone_of (said command) numbers.now }
-{
-    match numbers {
-        [] => Some(command),
-        _ => None,
-    }
 }
 
 fn show(numbers: &[u64]) -> Option<Command>
@@ -149,8 +136,6 @@ fn got(numbers: &[u64]) -> Option<Command>
 fn serve(numbers: &[u64]) -> Option<Command>
     ensures { said_if result ≡ serve_of numbers.now }
 {
-    match RawVector::read(numbers) {
-        Some(slip) => Some(Command::Serve { slip }),
-        None => None,
-    }
+    let slip = RawVector::read(numbers)?;
+    Some(Command::Serve { slip })
 }

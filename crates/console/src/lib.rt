@@ -5,6 +5,7 @@ pub mod answer;
 pub mod command;
 mod forms;
 pub mod hex;
+mod language;
 pub mod laws;
 pub mod line;
 mod number;

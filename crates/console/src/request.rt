@@ -31,18 +31,8 @@ pub struct RawChoices {
 
 #[derive(Clone, Copy)]
 pub enum Request {
-    Book {
-        guest: u64,
-        choices: RawChoices,
-    },
-    Cancel {
-        mark: RawMark,
-    },
-    Change {
-        mark: RawMark,
-        choices: RawChoices,
-    },
-    Beds {
-        supply: RawChoice,
-    },
+    Book { guest: u64, choices: RawChoices },
+    Cancel { mark: RawMark },
+    Change { mark: RawMark, choices: RawChoices },
+    Beds { supply: RawChoice },
 }

@@ -5,6 +5,6 @@ use Rattle.console.proofs.line.read_command.Goals as goal
 
 pub returns : goal.returns
 returns c = record {
-  value = c.parse.ensures;
-  written = λ s fine line-is. c.parse.ensures ∙ ap parsed line-is ∙ lines_read_back s fine;
+  value = c.read.ensures;
+  written = λ s fine line-is. c.read.ensures ∙ ap parsed line-is ∙ lines_read_back s fine;
 }

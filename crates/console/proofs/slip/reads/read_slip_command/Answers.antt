@@ -5,6 +5,6 @@ use Rattle.console.proofs.slip.reads.read_slip_command.Goals as goal
 
 pub returns : goal.returns
 returns c = record {
-  value = c.parse.ensures;
-  written = λ s fine line-is. c.parse.ensures ∙ ap slip_parsed line-is ∙ slip_lines_read_back s fine;
+  value = c.read.ensures;
+  written = λ s fine line-is. c.read.ensures ∙ ap slip_parsed line-is ∙ slip_lines_read_back s fine;
 }
