@@ -15,93 +15,91 @@ use std::alloc::Global;
 
 // Hut 1 books 20 beds of hut 5 on night 9 for guest 7.
 pub fn booking(stamp: u32) -> anyhow::Result<Entry> {
-    let Ok(mark) = Mark::new(stamp as u64, 1) else {
-        return Err(anyhow!("no mark"));
-    };
-    let Ok(stay) = Stay::new(5, 9, 1) else {
-        return Err(anyhow!("no stay"));
-    };
-    let Ok(choice) = Choice::new(stay, 20) else {
-        return Err(anyhow!("no choice"));
-    };
-    let Ok(choices) = Choices::none().with(choice) else {
-        return Err(anyhow!("no choices"));
-    };
+    let mark = Mark::new(stamp as u64, 1).map_err(|_| anyhow!("no mark"))?;
+    let stay = Stay::new(5, 9, 1).map_err(|_| anyhow!("no stay"))?;
+    let choice = Choice::new(stay, 20).map_err(|_| anyhow!("no choice"))?;
+    let choices = Choices::none()
+        .with(choice)
+        .map_err(|_| anyhow!("no choices"))?;
     let kind = Kind::Book { guest: 7, choices };
     Ok(Entry { mark, kind })
 }
 
-// The letter of some entries.
-pub fn letter(
+// Where the rows go, and the memory of their letters.
+#[derive(Drop)]
+pub struct Table<'a, P: Print> {
+    out: &'a P,
     heap: Global,
-    place: u32,
-    committed: &[Entry],
-    tentative: &[Waiting],
-) -> anyhow::Result<Vec<u8>> {
-    let mut out = Vec::with_capacity(heap, LETTER_ROOM)?;
-    if write_letter(place, committed, tentative, &mut out).is_err() {
-        return Err(anyhow!("no letter"));
-    }
-    Ok(out)
 }
 
-// One row: what is heard of a letter.
-pub fn row(rt: &impl Print, name: &str, bytes: &[u8]) -> anyhow::Result<()> {
-    let Ok(mut letter) = Letter::open(bytes) else {
-        println!(rt; "{name}: damaged")?;
-        return Ok(());
-    };
-    let kept_out = letter.kept_out();
-    print!(rt; "{name}:")?;
-    let mut tentative = 0u32;
-    while let Some(item) = letter.next() {
-        match item {
-            Item::Committed { place, entry } => {
-                let stamp = entry.mark.stamp;
-                print!(rt; " {stamp} at {place},")?;
+impl<'a, P: Print> Table<'a, P> {
+    // The letter of some entries.
+    fn letter(
+        &self,
+        place: u32,
+        committed: &[Entry],
+        tentative: &[Waiting],
+    ) -> anyhow::Result<Vec<u8>> {
+        let mut out = Vec::with_capacity(self.heap, LETTER_ROOM)?;
+        write_letter(place, committed, tentative, &mut out)?;
+        Ok(out)
+    }
+
+    // One row: what is heard of a letter.
+    fn row(&self, name: &str, bytes: &[u8]) -> anyhow::Result<()> {
+        let out = self.out;
+        let Ok(letter) = Letter::open(bytes) else {
+            println!(out; "{name}: damaged")?;
+            return Ok(());
+        };
+        let kept_out = letter.kept_out();
+        print!(out; "{name}:")?;
+        let mut tentative = 0u32;
+        for item in letter {
+            match item {
+                Item::Committed { place, entry } => {
+                    let stamp = entry.mark.stamp;
+                    print!(out; " {stamp} at {place},")?;
+                }
+                Item::Tentative(_) => tentative = tentative.saturating_add(1),
             }
-            Item::Tentative(_) => tentative = tentative.saturating_add(1),
         }
+        println!(out; " {tentative} tentative, {kept_out} kept out")?;
+        Ok(())
     }
-    println!(rt; " {tentative} tentative, {kept_out} kept out")?;
-    Ok(())
-}
 
-fn hex(rt: &impl Print, name: &str, bytes: &[u8]) -> anyhow::Result<()> {
-    print!(rt; "{name} ")?;
-    for byte in bytes {
-        print!(rt; "{byte:02x}")?;
+    // The bytes of a letter, and its row.
+    fn example(&self, name: &str, bytes: &[u8]) -> anyhow::Result<()> {
+        let out = self.out;
+        print!(out; "{name} ")?;
+        for byte in bytes {
+            print!(out; "{byte:02x}")?;
+        }
+        println!(out; "")?;
+        self.row(name, bytes)
     }
-    println!(rt; "")?;
-    Ok(())
-}
 
-fn examples(rt: &impl Print, heap: Global) -> anyhow::Result<()> {
-    let entry = booking(1)?;
-    let waiting = Waiting {
-        entry,
-        stood: Vector::zero(),
-    };
-    let empty = letter(heap, 7, &[], &[])?;
-    hex(rt, "empty letter", empty.as_slice())?;
-    row(rt, "empty letter", empty.as_slice())?;
-    let tentative = letter(heap, 7, &[], &[waiting])?;
-    hex(rt, "it is tentative", tentative.as_slice())?;
-    row(rt, "it is tentative", tentative.as_slice())?;
-    let committed = letter(heap, 0, &[entry], &[])?;
-    hex(rt, "it is committed at 0", committed.as_slice())?;
-    row(rt, "it is committed at 0", committed.as_slice())
-}
-
-fn run(rt: &impl Print, heap: Global) -> anyhow::Result<()> {
-    examples(rt, heap)?;
-    forms::damaged(rt, heap)?;
-    ranges::out_of_range(rt, heap)?;
-    full::cuts(rt, heap)?;
-    full::full(rt, heap)
+    fn examples(&self) -> anyhow::Result<()> {
+        let entry = booking(1)?;
+        let waiting = Waiting {
+            entry,
+            stood: Vector::zero(),
+        };
+        let empty = self.letter(7, &[], &[])?;
+        self.example("empty letter", empty.as_slice())?;
+        let tentative = self.letter(7, &[], &[waiting])?;
+        self.example("it is tentative", tentative.as_slice())?;
+        let committed = self.letter(0, &[entry], &[])?;
+        self.example("it is committed at 0", committed.as_slice())
+    }
 }
 
 fn main(rt: HostRuntime) -> anyhow::Result<()> {
     let heap = rt.alloc();
-    run(&rt, heap)
+    let table = Table { out: &rt, heap };
+    table.examples()?;
+    table.damaged()?;
+    table.out_of_range()?;
+    table.cuts()?;
+    table.full()
 }

@@ -39,12 +39,8 @@ impl<'a> Letter<'a> {
             (λ l. read_body reader.entry.rest.now ≡ heard_of l)
             (λ e. (number_of e ≡ 1) × (read_body reader.entry.rest.now ≡ damaged)) }
     {
-        let Ok(committed) = reader.two() else {
-            return Err(Refusal::Damaged);
-        };
-        let Ok(place) = reader.four() else {
-            return Err(Refusal::Damaged);
-        };
+        let committed = reader.two().map_err(|_| Refusal::Damaged)?;
+        let place = reader.four().map_err(|_| Refusal::Damaged)?;
         if committed > LETTER {
             return Err(Refusal::Damaged);
         }
@@ -71,9 +67,7 @@ impl<'a> Letter<'a> {
             (λ l. heard_on self.entry reader.entry.rest.now ≡ heard_of l)
             (λ e. (number_of e ≡ 1) × (heard_on self.entry reader.entry.rest.now ≡ damaged)) }
     {
-        let Ok(tentative) = reader.two() else {
-            return Err(Refusal::Damaged);
-        };
+        let tentative = reader.two().map_err(|_| Refusal::Damaged)?;
         if self.committed as u32 + tentative as u32 > LETTER as u32 {
             return Err(Refusal::Damaged);
         }
@@ -83,13 +77,10 @@ impl<'a> Letter<'a> {
             return Err(Refusal::Damaged);
         }
         Ok(Letter {
-            place: self.place,
-            committed: self.committed,
-            given: self.given,
-            first: self.first,
             tentative,
             second,
             out,
+            ..self
         })
     }
 }

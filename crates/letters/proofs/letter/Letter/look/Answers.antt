@@ -1,4 +1,4 @@
-use Rattle.std.proofs.Common.{◌≡◌, ◌+◌, ◌-◌, sym, ◌∙◌, subst, arith, MatchResult}
+use Rattle.std.proofs.Common.{◌≡◌, ◌+◌, ◌-◌, sym, ◌∙◌, subst, arith, rules, MatchResult}
 use Rattle.bookings.specs.Refusals.{number_of}
 use Rattle.letters.specs.Items.{heard_of}
 use Rattle.letters.specs.Letters.{Heard, damaged}
@@ -8,14 +8,14 @@ use Rattle.letters.proofs.letter.Letter.look.Goals as goal
 pub returns-then-out-gt0 : goal.returns-then-out-gt0
 returns-then-out-gt0 c =
     looked_stopped c.args.reader.rest.now c.two.new.self.rest.now c.four.new.self.rest.now c.new-first.result.rest.now
-    c.in-Ok.committed
-    c.in-Ok-four.place
+    c.in_ok-committed.committed
+    c.in_ok-place.place
     c.in_ok-out.out
-    (c.in-Ok-four.place + 0)
-    (c.in-Ok.committed - 0)
+    (c.in_ok-place.place + 0)
+    (c.in_ok-committed.committed - 0)
     _
-    c.in-Ok.ensures
-    c.in-Ok-four.ensures
+    (search rules)
+    (search rules)
     c.if-committed-gt-LETTER.false
     c.in_ok-out.ensures
     c.if-out-gt0.true
@@ -27,14 +27,14 @@ pub returns : goal.returns
 returns c =
     let e =
     looked_through c.args.reader.rest.now c.two.new.self.rest.now c.four.new.self.rest.now c.new-first.result.rest.now
-    c.in-Ok.committed
-    c.in-Ok-four.place
+    c.in_ok-committed.committed
+    c.in_ok-place.place
     c.in_ok-out.out
-    (c.in-Ok-four.place + 0)
-    (c.in-Ok.committed - 0)
+    (c.in_ok-place.place + 0)
+    (c.in_ok-committed.committed - 0)
     c.pass.new.self.rest.now
-    c.in-Ok.ensures
-    c.in-Ok-four.ensures
+    (search rules)
+    (search rules)
     c.if-committed-gt-LETTER.false
     c.in_ok-out.ensures
     c.if-out-gt0.false

@@ -17,10 +17,10 @@ returns c =
       | else-out-eq0-via-else-out-eq0 w ↦ λ e. absurd (w.if-out-eq0.false (eqb-true out 0 e))
     ] in
     looked_on c.args.reader.rest.now c.two.new.self.rest.now c.new-second.result.rest.now t l.committed (l.place + l.given)
-    c.in-Ok.tentative
+    c.in_ok-tentative.tentative
     out
     (front reads (l.committed - l.given) l.first.rest.now)
-    c.in-Ok.ensures
+    (search rules)
     c.if-self-tentative.false
     c.in_ok-out.ensures
     (c.new-second.ensures ∙ c.rest.ensures)
