@@ -49,7 +49,7 @@ pub(crate) fn take_item<J: Journal + Drop>(
 // Takes or skips the entries that a letter still has, and notes what came of each.
 fn take_all<J: Journal + Drop>(
     keeper: &mut Keeper<J>,
-    mut letter: Letter,
+    letter: Letter,
     outcomes: &mut Vec<Outcome>,
 ) -> Result<(), Fault>
     requires empty { vec_len outcomes.old ≡ 0 }
@@ -64,7 +64,7 @@ fn take_all<J: Journal + Drop>(
     ensures sure { (k : Kept) → InStep J.Journal.keeps keeper.old k → most_bytes < J.Journal.room keeper.old.journal → is_ok result ≡ true }
     ensures capacity { vec_capacity outcomes.new ≡ vec_capacity outcomes.old }
 {
-    while let Some(item) = letter.next() {
+    for item in letter {
         let outcome = take_item(keeper, &item)?;
         outcomes.push_reserved(outcome);
     }

@@ -1,9 +1,10 @@
-use Rattle.std.proofs.Common.{◌≡◌, List, [], ◌∷◌, ◌++◌, map, length, vec_items, refl, ap, ◌∙◌, arith, rules}
+use Rattle.std.proofs.Common.{◌≡◌, List, [], ◌∷◌, ◌++◌, map, length, vec_items, sym, refl, ap, ◌∙◌, subst, arith, rules}
 use Rattle.std.proofs.lemmas.List.{map-append}
-use Rattle.letters.specs.Items.{plain_item}
+use Rattle.journal.specs.Keeping.{InStep}
+use Rattle.letters.specs.Items.{PlainItem, left, plain_item}
 use Rattle.network.specs.Items.{refusal_of}
 use Rattle.network.specs.Taking.{plain_outcome, outcome_of}
-use Rattle.network.proofs.TakingOn.{midway_none, midway_more, midway_taken, midway_told}
+use Rattle.network.proofs.TakingOn.{Midway, midway_none, midway_more, midway_taken, midway_told}
 use Rattle.network.proofs.takes.take_all.Goals as goal
 
 no_items : {A : Type 0} (xs : List A) → length xs ≡ 0 → xs ≡ []
@@ -12,7 +13,8 @@ no_items (x ∷ xs) h = absurd (omega arith)
 
 pub loop-item-init : goal.loop-item-init
 loop-item-init g c = (
-  λ k in_step. midway_none _ _ _ k (ap (map plain_outcome) (no_items (vec_items c.args.outcomes.now) (search rules))) in_step,
+  λ k in_step. subst (λ (ws : List PlainItem). Midway (InStep g.J.Journal.keeps c.args.keeper.now) (left c.args.letter) ws (map plain_outcome (vec_items c.args.outcomes.now)) k) (ap left (sym c.into_iter-item-iterator.ensures.into_iter_gives))
+      (midway_none _ _ _ k (ap (map plain_outcome) (no_items (vec_items c.args.outcomes.now) (search rules))) in_step),
   omega arith,
   search rules,
   refl,
@@ -30,8 +32,8 @@ loop-item-preserved g c = (
 
 pub returns : goal.returns
 returns g c = record {
-  kept = λ k in_step. midway_taken _ _ _ _ k (c.loop-item.invariant.0 k in_step) c.in_default.ensures.next.0;
-  answer = λ k in_step. midway_told _ _ _ _ k (c.loop-item.invariant.0 k in_step) c.in_default.ensures.next.0;
+  kept = λ k in_step. midway_taken _ _ _ _ k (c.loop-item.invariant.0 k in_step) c.in-None.ensures.next.0;
+  answer = λ k in_step. midway_told _ _ _ _ k (c.loop-item.invariant.0 k in_step) c.in-None.ensures.next.0;
   room = c.loop-item.invariant.1;
   sure = λ k in_step roomy. refl;
   capacity = c.loop-item.invariant.3;
