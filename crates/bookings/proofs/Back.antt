@@ -1,5 +1,5 @@
 -- What is taken back, from the parts in which the code does it.
-use Rattle.std.proofs.Common.{◌≡◌, ℕ, ◌-◌, List, length, get_or, set, Some, None, refl, ⊎_elim, arith}
+use Rattle.std.proofs.Common.{◌≡◌, ℕ, ◌-◌, List, length, get_or, set, Some, refl, ⊎_elim, arith}
 use Rattle.bookings.specs.Held.{Few}
 use Rattle.bookings.specs.Nights.{first, claim, release}
 use Rattle.bookings.specs.Outcomes.{PlainGrant, PlainOutcome, holds, nothing, once_held_by}
@@ -7,9 +7,6 @@ use Rattle.bookings.specs.Plain.{PlainChoice}
 use Rattle.bookings.specs.Ranges.{StayOk}
 use Rattle.bookings.specs.Undone.{Rest, reinstated}
 use Rattle.bookings.proofs.Over.{over_cases, stay_fits}
-
-pub reinstate_none : (p : ℕ) (r : Rest) → None ≡ once_held_by (get_or r.outcomes p nothing) → r ≡ reinstated (Some p) r
-reinstate_none p r none = rw (← none) refl
 
 pub reinstate_some :
     (p : ℕ) (r : Rest) (g : PlainGrant) (booked : List ℕ) (outcomes : List PlainOutcome) → Some g ≡ once_held_by (get_or r.outcomes p nothing)

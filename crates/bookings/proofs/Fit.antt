@@ -1,6 +1,6 @@
 -- A night more, and a choice more: how the answer goes on from what is left.
 use Rattle.std.proofs.Common.{◌≡◌, ℕ, zero, suc, ◌+◌, ◌-◌, ◌<◌, ◌≤◌, Bool, true, false, cond, leb, List, [], ◌∷◌, map, length, get_or, take, drop, Some, None, Option, sym, refl, ap, ◌∙◌, subst, add-one, arith}
-use Rattle.std.proofs.lemmas.List.{drop_more, drop_all, drop-map, get_or-take, get_or-drop}
+use Rattle.std.proofs.lemmas.List.{drop_more, drop-map, get_or-take, get_or-drop}
 use Rattle.std.proofs.lemmas.Bool.{le-leb, leb-true}
 use Rattle.bookings.specs.declared.entry.Choice.{Choice}
 use Rattle.bookings.specs.Books.{first_free}
@@ -32,10 +32,6 @@ module _ (beds booked : List ℕ) (over : Option ℕ) where
       (j i : ℕ) (cs : List Choice) (c : Choice) → i < length cs → c ≡ get_or cs i c → is_free beds booked (plain_choice c) ≡ false
       → first_free beds booked over j (drop i (map plain_choice cs)) ≡ first_free beds booked over (j + 1) (drop (i + 1) (map plain_choice cs))
   first_no j i cs c h is taken = rw (next_choice i cs c h is, taken, add-one j) refl
-
-  pub first_end :
-      (j i : ℕ) (cs : List Choice) → length cs ≤ i → first_free beds booked over j (drop i (map plain_choice cs)) ≡ None
-  first_end j i cs h = rw (drop-map plain_choice i cs, drop_all i cs h) refl
 
 -- where all nights are free, each is
 at_step :

@@ -1,4 +1,4 @@
-use Rattle.std.proofs.Common.{map, rules}
+use Rattle.std.proofs.Common.{map}
 use Rattle.std.proofs.lemmas.List.{map-set}
 use Rattle.bookings.specs.Outcomes.{plain_outcome}
 use Rattle.bookings.specs.Plain.{plain_mark}
@@ -6,8 +6,8 @@ use Rattle.bookings.specs.Views.{plain_standing}
 use Rattle.bookings.proofs.Deeds.{cancel_found}
 use Rattle.bookings.proofs.effects.cancel.Goals as goal
 
-pub release_beds-requires : goal.release_beds-requires
-release_beds-requires c = record { long = search rules; held = c.requires.covered _ _ c.in-Some.ensures.there.1 }
+pub release_beds-requires-clause-held : goal.release_beds-requires-clause-held
+release_beds-requires-clause-held c = c.requires.covered _ _ c.in-Some.ensures.there.1
 
 pub returns : goal.returns
 returns c = λ beds.

@@ -1,4 +1,4 @@
-use Rattle.std.proofs.Common.{◌+◌, map, get_or, ap, ◌∙◌, arith, rules}
+use Rattle.std.proofs.Common.{◌+◌, map, get_or, ap, ◌∙◌, arith}
 use Rattle.std.proofs.lemmas.List.{map-set}
 use Rattle.bookings.specs.Books.{PlainBook}
 use Rattle.bookings.specs.Nights.{first, claim}
@@ -10,22 +10,19 @@ use Rattle.bookings.proofs.Over.{release-at, claim_after_release}
 use Rattle.bookings.proofs.Ranged.{stay_ok}
 use Rattle.bookings.proofs.effects.change.Goals as goal
 
-pub release_beds-requires : goal.release_beds-requires
-release_beds-requires c = record { long = search rules; held = c.requires.covered _ _ c.in-Some.ensures.there.1 }
+pub release_beds-requires-clause-held : goal.release_beds-requires-clause-held
+release_beds-requires-clause-held c = c.requires.covered _ _ c.in-Some.ensures.there.1
 
-pub claim_beds-requires : goal.claim_beds-requires
-claim_beds-requires c =
+pub claim_beds-requires-clause-fits : goal.claim_beds-requires-clause-fits
+claim_beds-requires-clause-fits c =
     let choice = c.in-Some.found.grant.choice in
     let from = first (plain_stay choice.stay) in
     let held = c.requires.covered _ _ c.in-Some.ensures.there.1 in
-    record {
-      long = search rules;
-      fits = λ k h.
-          let left =
-          ap (λ l. get_or l (from + k) 0) (c.in_default-grant_first.ensures.after ∙ c.release_beds.ensures)
-          ∙ release-at c.args.booked.now (plain_choice choice) c.requires.long (stay_ok choice.stay) k h in
-          omega (arith, held k h, c.requires.few (from + k));
-    }
+    λ k h.
+    let left =
+    ap (λ l. get_or l (from + k) 0) (c.in_default-grant_first.ensures.after ∙ c.release_beds.ensures)
+    ∙ release-at c.args.booked.now (plain_choice choice) c.requires.long (stay_ok choice.stay) k h in
+    omega (arith, held k h, c.requires.few (from + k))
 
 pub returns-in_default-grant_first : goal.returns-in_default-grant_first
 returns-in_default-grant_first c =

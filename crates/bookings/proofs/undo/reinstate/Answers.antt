@@ -1,11 +1,8 @@
 use Rattle.std.proofs.Common.{map}
 use Rattle.std.proofs.lemmas.List.{map-set}
 use Rattle.bookings.specs.Outcomes.{plain_grant, plain_outcome}
-use Rattle.bookings.proofs.Back.{reinstate_none, reinstate_some}
+use Rattle.bookings.proofs.Back.{reinstate_some}
 use Rattle.bookings.proofs.undo.reinstate.Goals as goal
-
-pub returns-in_default : goal.returns-in_default
-returns-in_default c = λ beds. reinstate_none c.args.place _ c.in_default.ensures.value
 
 pub returns : goal.returns
 returns c = λ beds.
