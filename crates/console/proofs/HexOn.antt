@@ -1,17 +1,18 @@
 -- How hexadecimal digits and their bytes go on, at the terms of the loops.
-use Rattle.std.proofs.Common.{◌≡◌, ℕ, zero, suc, ◌+◌, ◌*◌, ◌/◌, ◌%◌, ◌<◌, ◌≤◌, Bool, true, false, cond, eqb, List, [], ◌∷◌, ◌++◌, length, get_or, take, drop, sym, refl, ap, ◌∙◌, append_assoc, arith}
+use Rattle.std.proofs.Common.{◌≡◌, ℕ, zero, suc, ◌+◌, ◌*◌, ◌/◌, ◌%◌, ◌<◌, Bool, true, false, cond, eqb, List, [], ◌∷◌, ◌++◌, ◌&&◌, length, get_or, take, sym, refl, ap, ◌∙◌, append_assoc, arith}
 use borrow.Author.Tests.{clash}
-use Rattle.std.proofs.lemmas.List.{drop_more, drop_all, take_more}
+use Rattle.std.proofs.lemmas.List.{take_more}
+use Rattle.std.specs.List.{list_all}
 use Rattle.console.specs.Hexes.{is_digit, all_digits, is_hex, byte_of, bytes_of}
 
-pub digits_stop : (w : List ℕ) (i : ℕ) → i < length w → is_digit (get_or w i 0) ≡ false → all_digits (drop i w) ≡ false
-digits_stop w i h none = ap all_digits (drop_more w i 0 h) ∙ ap (λ t. cond t (all_digits (drop (i + 1) w)) false) none
+-- all of them are digits
+digit_and : (s t u : Bool) → t ≡ u → (s && t) ≡ cond s u false
+digit_and true t u e = e
+digit_and false t u e = refl
 
-pub digits_on : (w : List ℕ) (i : ℕ) → i < length w → is_digit (get_or w i 0) ≡ true → all_digits (drop i w) ≡ all_digits (drop (i + 1) w)
-digits_on w i h one = ap all_digits (drop_more w i 0 h) ∙ ap (λ t. cond t (all_digits (drop (i + 1) w)) false) one
-
-pub digits_end : (w : List ℕ) (i : ℕ) → length w ≤ i → all_digits (drop i w) ≡ true
-digits_end w i h = rw (drop_all i w h) refl
+pub every_digit : (w : List ℕ) → list_all is_digit w ≡ all_digits w
+every_digit [] = refl
+every_digit (b ∷ w) = digit_and (is_digit b) (list_all is_digit w) (all_digits w) (every_digit w)
 
 both : (s t : Bool) → cond s t false ≡ true → (s ≡ true) × (t ≡ true)
 both true t h = (refl, h)

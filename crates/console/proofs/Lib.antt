@@ -7,7 +7,6 @@ pub mod HexText
 pub mod InRange
 pub mod Languages
 pub mod NumbersOn
-pub mod Pieces
 pub mod ReadBack
 pub mod SaidBy
 pub mod SlipBack

@@ -1,26 +1,44 @@
 -- Where a text's words begin and end.
-use Rattle.std.proofs.Common.{◌≡◌, ℕ, suc, ◌+◌, ◌<◌, ◌≤◌, Bool, true, false, eqb, List, [], ◌∷◌, ◌++◌, length, get_or, take, drop, sym, refl, ap, ◌∙◌, append_assoc, arith, ne_eqb}
-use Rattle.std.proofs.lemmas.List.{append-nil, nil_from_length, drop_more, drop_all}
+use Rattle.std.proofs.Common.{◌≡◌, cond, not, ltb, ltb-false, Option, None, Some, ℕ, suc, ◌<◌, ◌≤◌, Bool, true, false, eqb, List, [], ◌∷◌, ◌++◌, length, take, drop, sym, refl, ap, ◌∙◌, append_assoc, arith}
+use Rattle.std.specs.List.{prefix_len, position_or_len}
+use Rattle.std.specs.Option.{unwrap_or}
+use Rattle.std.proofs.lemmas.List.{append-nil, nil_from_length}
 use Rattle.console.specs.Words.{space, words_after, words, spaces, span}
 
--- at the terms of the loops
-pub spaces_stop : (xs : List ℕ) (i : ℕ) → i < length xs → (get_or xs i 0 ≡ 32 → ⊥) → spaces (drop i xs) ≡ 0
-spaces_stop xs i h e = rw (drop_more xs i 0 h, ne_eqb (get_or xs i 0) 32 e) refl
+-- the first place that passes a test, or the end
+prefix_step : (p : ℕ → Bool) (x : ℕ) (xs : List ℕ) (t : Bool) → p x ≡ t → prefix_len p xs ≤ length xs → prefix_len p (x ∷ xs) ≤ length (x ∷ xs)
+prefix_step p x xs true e within = simp e (omega (arith, within))
+prefix_step p x xs false e within = simp e (omega arith)
 
-pub spaces_on : (xs : List ℕ) (i : ℕ) → i < length xs → get_or xs i 0 ≡ 32 → spaces (drop i xs) ≡ 1 + spaces (drop (i + 1) xs)
-spaces_on xs i h e = rw (drop_more xs i 0 h, e) (omega arith)
+prefix_within : (p : ℕ → Bool) (xs : List ℕ) → prefix_len p xs ≤ length xs
+prefix_within p [] = omega arith
+prefix_within p (x ∷ xs) = prefix_step p x xs (p x) refl (prefix_within p xs)
 
-pub spaces_end : (xs : List ℕ) (i : ℕ) → length xs ≤ i → spaces (drop i xs) ≡ 0
-spaces_end xs i h = rw (drop_all i xs h) refl
+found_by : (n k : ℕ) (t : Bool) → ltb n k ≡ t → n ≤ k → unwrap_or (cond t (Some n) None) k ≡ n
+found_by n k true e within = refl
+found_by n k false e within = let past : k ≤ n = ltb-false n k e in omega arith
 
-pub span_stop : (xs : List ℕ) (i : ℕ) → i < length xs → get_or xs i 0 ≡ 32 → span (drop i xs) ≡ 0
-span_stop xs i h e = rw (drop_more xs i 0 h, e) refl
+pub found_or_end :
+    (test : ℕ → Bool) (xs : List ℕ) (r : Option ℕ) → r ≡ cond (ltb (position_or_len test xs) (length xs)) (Some (position_or_len test xs)) None
+    → unwrap_or r (length xs) ≡ position_or_len test xs
+found_or_end test xs r r-is =
+    ap (λ t. unwrap_or t (length xs)) r-is ∙ found_by (position_or_len test xs) (length xs) _ refl (prefix_within (λ x. not (test x)) xs)
 
-pub span_on : (xs : List ℕ) (i : ℕ) → i < length xs → (get_or xs i 0 ≡ 32 → ⊥) → span (drop i xs) ≡ 1 + span (drop (i + 1) xs)
-span_on xs i h e = rw (drop_more xs i 0 h, ne_eqb (get_or xs i 0) 32 e) (omega arith)
+spaces_step : (b : ℕ) (bs : List ℕ) (t : Bool) → eqb b space ≡ t → position_or_len (λ x. not (eqb x space)) bs ≡ spaces bs → position_or_len (λ x. not (eqb x space)) (b ∷ bs) ≡ spaces (b ∷ bs)
+spaces_step b bs true e further = simp e (omega (arith, further))
+spaces_step b bs false e further = simp e
 
-pub span_end : (xs : List ℕ) (i : ℕ) → length xs ≤ i → span (drop i xs) ≡ 0
-span_end xs i h = rw (drop_all i xs h) refl
+pub first_no_space : (bs : List ℕ) → position_or_len (λ x. not (eqb x space)) bs ≡ spaces bs
+first_no_space [] = refl
+first_no_space (b ∷ bs) = spaces_step b bs (eqb b space) refl (first_no_space bs)
+
+span_step : (b : ℕ) (bs : List ℕ) (t : Bool) → eqb b space ≡ t → position_or_len (λ x. eqb x space) bs ≡ span bs → position_or_len (λ x. eqb x space) (b ∷ bs) ≡ span (b ∷ bs)
+span_step b bs true e further = simp e
+span_step b bs false e further = simp e (omega (arith, further))
+
+pub first_space : (bs : List ℕ) → position_or_len (λ x. eqb x space) bs ≡ span bs
+first_space [] = refl
+first_space (b ∷ bs) = span_step b bs (eqb b space) refl (first_space bs)
 
 -- spaces in front do not matter
 past_head : (b : ℕ) (bs : List ℕ) (t : Bool) → eqb b space ≡ t → words (drop (spaces bs) bs) ≡ words bs → words (drop (spaces (b ∷ bs)) (b ∷ bs)) ≡ words (b ∷ bs)

@@ -6,15 +6,12 @@ ghost use Rattle.console.specs.Digits.{number_of};
 pub fn read_number(word: &[u8]) -> Option<u64>
     ensures { result ≡ number_of word.now }
 {
-    if word.len() == 0 || word.len() > 10 {
+    if word.is_empty() || word.len() > 10 {
         return None;
     }
     let mut n: u64 = 0;
     for b in word {
-        let Some(d) = digit(*b) else {
-            return None;
-        };
-        n = n * 10 + d;
+        n = n * 10 + digit(*b)?;
     }
     Some(n)
 }
@@ -22,8 +19,6 @@ pub fn read_number(word: &[u8]) -> Option<u64>
 fn digit(b: u8) -> Option<u64>
     ensures { MatchOption result ((b < 48) ⊎ (57 < b)) (λ d. (48 ≤ b) × (b ≤ 57) × (d ≡ b - 48)) }
 {
-    if b < b'0' || b > b'9' {
-        return None;
-    }
-    Some((b - b'0') as u64)
+    let value = (b as char).to_digit(10)?;
+    Some(value as u64)
 }

@@ -26,22 +26,14 @@ fn leading_spaces(text: &[u8]) -> usize
     ensures value { result ≡ spaces text.now }
     ensures within { result ≤ length text.now }
 {
-    for (i, b) in text.iter().enumerate() {
-        if *b != b' ' {
-            return i;
-        }
-    }
-    text.len()
+    let past = text.iter().position(|b| *b != b' ');
+    past.unwrap_or(text.len())
 }
 
 fn word_end(text: &[u8]) -> usize
     ensures value { result ≡ span text.now }
     ensures within { result ≤ length text.now }
 {
-    for (i, b) in text.iter().enumerate() {
-        if *b == b' ' {
-            return i;
-        }
-    }
-    text.len()
+    let behind = text.iter().position(|b| *b == b' ');
+    behind.unwrap_or(text.len())
 }

@@ -23,17 +23,10 @@ fn row<T: Copy>(rt: &impl Print, call: &str, done: Result<T, Refusal>) -> anyhow
 }
 
 fn open(heap: Global, hut: u8) -> anyhow::Result<Replica> {
-    match Replica::new(heap, hut) {
-        Ok(replica) => Ok(replica),
-        Err(_) => Err(anyhow!("no replica")),
-    }
-}
-
-fn mark(stamp: u64, hut: u64) -> anyhow::Result<Mark> {
-    match Mark::new(stamp, hut) {
-        Ok(mark) => Ok(mark),
-        Err(_) => Err(anyhow!("no mark")),
-    }
+    let Ok(replica) = Replica::new(heap, hut) else {
+        return Err(anyhow!("no replica"));
+    };
+    Ok(replica)
 }
 
 // A booking that wants nothing.
@@ -45,7 +38,7 @@ fn booking() -> Kind {
 }
 
 fn entry(stamp: u64, hut: u64) -> anyhow::Result<Entry> {
-    let mark = mark(stamp, hut)?;
+    let mark = Mark::new(stamp, hut)?;
     let kind = booking();
     Ok(Entry { mark, kind })
 }
@@ -56,7 +49,7 @@ fn ahead() -> Vector {
 }
 
 fn make_and_ask(rt: &impl Print, replica: &mut Replica) -> anyhow::Result<()> {
-    let unknown = mark(9, 9)?;
+    let unknown = Mark::new(9, 9)?;
     row(
         rt,
         "make a cancel of no entry",
@@ -142,7 +135,7 @@ fn fill(replica: &mut Replica) {
 }
 
 fn out_of_room(rt: &impl Print, replica: &mut Replica) -> anyhow::Result<()> {
-    let unknown = mark(9, 9)?;
+    let unknown = Mark::new(9, 9)?;
     row(rt, "make in a full log", replica.make(booking()))?;
     row(
         rt,

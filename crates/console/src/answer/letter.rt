@@ -1,7 +1,7 @@
 // A letter in hexadecimal digits.
-ghost use Rattle.std.specs.Prelude.{◌≡◌, ◌<◌, Some};
+ghost use Rattle.std.specs.Prelude.{Some};
 ghost use Rattle.console.specs.LetterAnswers.{letter_text};
-ghost use Rattle.console.specs.Hexes.{digit_for, hex_text};
+ghost use Rattle.console.specs.Hexes.{hex_text};
 
 use std::fmt;
 
@@ -28,22 +28,9 @@ impl fmt::Display for Digits<'_> {
     ghost output = { λ d. Some (hex_text d.bytes.now) };
 
     fn fmt<W: fmt::Write>(&self, f: &mut fmt::Formatter<W>) -> fmt::Result {
-        for byte in self.bytes {
-            f.write_char(digit(*byte / 16))?;
-            f.write_char(digit(*byte % 16))?;
+        for &byte in self.bytes {
+            write!(f, "{byte:02x}")?;
         }
         Ok(())
-    }
-}
-
-fn digit(value: u8) -> char
-    requires { value < 16 }
-    ensures value { result ≡ digit_for value }
-    ensures ascii { result < 128 }
-{
-    if value < 10 {
-        (b'0' + value) as char
-    } else {
-        (b'a' + (value - 10)) as char
     }
 }

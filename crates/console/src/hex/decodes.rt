@@ -45,11 +45,5 @@ fn value(digit: u8) -> u8
     ensures value { result ≡ value_of digit }
     ensures small { result < 16 }
 {
-    if digit <= b'9' {
-        digit - b'0'
-    } else if digit <= b'F' {
-        digit - b'A' + 10
-    } else {
-        digit - b'a' + 10
-    }
+    (digit as char).to_digit(16).unwrap() as u8
 }

@@ -31,16 +31,11 @@ impl<'a> Hex<'a> {
 fn all_digits(word: &[u8]) -> bool
     ensures { result ≡ all_digits word.now }
 {
-    for b in word {
-        if !is_digit(*b) {
-            return false;
-        }
-    }
-    true
+    word.iter().all(|b| is_digit(*b))
 }
 
 fn is_digit(b: u8) -> bool
     ensures { result ≡ is_digit b }
 {
-    b >= b'0' && b <= b'9' || b >= b'A' && b <= b'F' || b >= b'a' && b <= b'f'
+    b.is_ascii_hexdigit()
 }

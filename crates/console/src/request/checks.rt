@@ -47,8 +47,7 @@ impl RawChoices {
             (λ e. OutOfRange e (ChoicesOk (asked_choices self.now))) }
     {
         let mut choices = Choices::none();
-        for i in 0..self.count {
-            let raw = self.all[i];
+        for raw in &self.all[..self.count] {
             choices = choices.with(raw.wanted()?)?;
         }
         Ok(choices)
@@ -61,14 +60,11 @@ impl Request {
     {
         match self {
             Request::Book { guest, choices } => {
-                if *guest > u32::MAX as u64 {
+                let Ok(guest) = u32::try_from(*guest) else {
                     return Err(Refusal::OutOfRange);
-                }
+                };
                 let choices = choices.wanted()?;
-                Ok(Kind::Book {
-                    guest: *guest as u32,
-                    choices,
-                })
+                Ok(Kind::Book { guest, choices })
             }
             Request::Cancel { mark } => {
                 let mark = mark.mark()?;

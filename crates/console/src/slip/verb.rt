@@ -3,23 +3,16 @@ ghost use Rattle.std.specs.Prelude.{◌≡◌};
 ghost use Rattle.console.specs.Slips.{slip_verb_of};
 
 use super::SlipVerb;
-use crate::verb::is;
 
 // The verb that a word names.
 pub(crate) fn read_slip_verb(word: &[u8]) -> Option<SlipVerb>
     ensures { result ≡ slip_verb_of word.now }
 {
-    if is(word, b"slip") {
-        return Some(SlipVerb::Slip);
+    match word {
+        b"slip" => Some(SlipVerb::Slip),
+        b"may" => Some(SlipVerb::May),
+        b"add" => Some(SlipVerb::Add),
+        b"help" => Some(SlipVerb::Help),
+        _ => None,
     }
-    if is(word, b"may") {
-        return Some(SlipVerb::May);
-    }
-    if is(word, b"add") {
-        return Some(SlipVerb::Add);
-    }
-    if is(word, b"help") {
-        return Some(SlipVerb::Help);
-    }
-    None
 }

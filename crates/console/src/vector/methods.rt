@@ -26,12 +26,11 @@ impl RawVector {
             (λ e. OutOfRange e (StampsFit self.now.all)) }
     {
         let mut stamps = [0u32; 16];
-        for hut in 0..16 {
-            let stamp = self.all[hut];
-            if stamp > u32::MAX as u64 {
+        for (hut, raw) in self.all.iter().enumerate() {
+            let Ok(stamp) = u32::try_from(*raw) else {
                 return Err(Refusal::OutOfRange);
-            }
-            stamps[hut] = stamp as u32;
+            };
+            stamps[hut] = stamp;
         }
         Ok(Vector::new(stamps))
     }

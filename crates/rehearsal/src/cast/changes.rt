@@ -50,10 +50,7 @@ impl Cast {
             (λ e. EnterRefused (asked request.now) (meant (scene_of self.old)) (number_of e)
             × (scene_of self.new ≡ scene_of self.old)) }
     {
-        let kind = match request.kind() {
-            Ok(kind) => kind,
-            Err(why) => return Err(why),
-        };
+        let kind = request.kind()?;
         self.make(kind)
     }
 

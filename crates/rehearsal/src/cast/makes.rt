@@ -28,10 +28,7 @@ impl Cast {
             return Err(Fault::Memory);
         };
         for hut in huts {
-            let replica = match join(heap, replicas.as_slice(), *hut) {
-                Ok(replica) => replica,
-                Err(why) => return Err(why),
-            };
+            let replica = join(heap, replicas.as_slice(), *hut)?;
             replicas.push_reserved(replica);
         }
         Ok(Cast {

@@ -1,12 +1,13 @@
-use Rattle.std.proofs.Common.{rules}
-use Rattle.console.proofs.WordBounds.{spaces_stop, spaces_on, spaces_end}
+use Rattle.std.proofs.Common.{not, eqb, ◌∙◌, rules}
+use Rattle.std.proofs.Common.{tests}
+use Rattle.std.proofs.lemmas.Iterator.{YieldsList-from_slice}
+use Rattle.std.proofs.lemmas.Iterator.Search.{position_from_yields_List}
+use Rattle.console.proofs.WordBounds.{found_or_end, first_no_space}
 use Rattle.console.proofs.words.leading_spaces.Goals as goal
 
-pub returns-then-b-ne32 : goal.returns-then-b-ne32
-returns-then-b-ne32 c = search (rules, spaces_stop)
-
-pub loop-i-preserved : goal.loop-i-preserved
-loop-i-preserved c = search (rules, spaces_on)
-
-pub returns : goal.returns
-returns c = search (rules, spaces_end)
+pub returns-clause-value : goal.returns-clause-value
+returns-clause-value c =
+    c.unwrap_or.ensures
+    ∙ found_or_end (λ b. not (eqb b 32)) c.args.text.now c.position-past.result
+    (position_from_yields_List (λ b. not (eqb b 32)) _ _ _ c.position-past.ensures.ran (YieldsList-from_slice c.args.text.now cc) (λ x b q k. search (rules, tests)))
+    ∙ first_no_space c.args.text.now

@@ -1,12 +1,13 @@
-use Rattle.std.proofs.Common.{rules}
-use Rattle.console.proofs.WordBounds.{span_stop, span_on, span_end}
+use Rattle.std.proofs.Common.{eqb, ◌∙◌, rules}
+use Rattle.std.proofs.Common.{tests}
+use Rattle.std.proofs.lemmas.Iterator.{YieldsList-from_slice}
+use Rattle.std.proofs.lemmas.Iterator.Search.{position_from_yields_List}
+use Rattle.console.proofs.WordBounds.{found_or_end, first_space}
 use Rattle.console.proofs.words.word_end.Goals as goal
 
-pub returns-then-b-eq32 : goal.returns-then-b-eq32
-returns-then-b-eq32 c = search (rules, span_stop)
-
-pub loop-i-preserved : goal.loop-i-preserved
-loop-i-preserved c = search (rules, span_on)
-
-pub returns : goal.returns
-returns c = search (rules, span_end)
+pub returns-clause-value : goal.returns-clause-value
+returns-clause-value c =
+    c.unwrap_or.ensures
+    ∙ found_or_end (λ b. eqb b 32) c.args.text.now c.position-behind.result
+    (position_from_yields_List (λ b. eqb b 32) _ _ _ c.position-behind.ensures.ran (YieldsList-from_slice c.args.text.now cc) (λ x b q k. search (rules, tests)))
+    ∙ first_space c.args.text.now

@@ -4,6 +4,6 @@ use Rattle.bookings.specs.Ranges.{ChoiceOk, Each}
 use Rattle.console.specs.Requests.{asked_choice}
 use Rattle.console.proofs.request.RawChoices.wanted.Given as goal
 
-abbrev pub invariant-loop-i : goal.invariant-loop-i
-invariant-loop-i l =
-    (plain_choices l.choices ≡ map asked_choice (take l.i l.self.all)) × Each ChoiceOk (map asked_choice (take l.i l.self.all))
+abbrev pub invariant-loop-raw : goal.invariant-loop-raw
+invariant-loop-raw l =
+    (plain_choices l.choices ≡ map asked_choice (take l.raw-index l.raw-items)) × Each ChoiceOk (map asked_choice (take l.raw-index l.raw-items))

@@ -1,4 +1,4 @@
-use Rattle.std.proofs.Common.{[], ◌∷◌, ◌++◌, get_or, sym, ap, ◌∙◌, arith, length-set, below_more}
+use Rattle.std.proofs.Common.{[], ◌∷◌, ◌++◌, take, sym, ap, ◌∙◌, arith, length-set, below_more}
 use Rattle.std.proofs.lemmas.List.{take_all, take_more, take_more_set}
 use Rattle.console.proofs.vector.RawVector.vector.Goals as goal
 
@@ -7,8 +7,8 @@ loop-hut-preserved c =
     let all = c.args.self.now.all in
     let hut = c.loop-hut.hut in
     let inv = c.loop-hut.invariant in (
-      take_more_set c.loop-hut.stamps hut (get_or all hut 0) (omega (arith, inv.2)) ∙ ap (λ ns. ns ++ get_or all hut 0 ∷ []) inv.0
-          ∙ sym (take_more all hut 0 (omega (arith, c.args.self.now.sixteen))),
+      take_more_set c.loop-hut.stamps hut _ (omega (arith, inv.2)) ∙ ap (λ ns. ns ++ c.in-Ok.stamp ∷ []) inv.0
+          ∙ ap (λ n. take hut all ++ n ∷ []) c.in-Ok.ensures.1 ∙ sym (take_more all hut 0 (omega (arith, c.args.self.now.sixteen))),
       below_more _ _ inv.1 (omega arith),
       length-set c.loop-hut.stamps hut _ ∙ inv.2,
     )

@@ -1,23 +1,26 @@
 use Rattle.std.proofs.Common.{◌≤◌, List, map, length, vec_items, ap, ◌∙◌, arith, rules, below_more}
 use Rattle.std.proofs.lemmas.List.{take_all}
+use Rattle.std.proofs.lemmas.Result.{err_from_is_err_and}
 use Rattle.replica.specs.Model.{State, fresh}
 use Rattle.replica.specs.Views.{state_of}
 use Rattle.rehearsal.proofs.Huts.{can_join, joined_states, joined_differs, still_unmade}
 use Rattle.rehearsal.proofs.cast.Cast.new.Goals as goal
 
-pub returns-in-Err : goal.returns-in-Err
-returns-in-Err c =
-    still_unmade c.in-Err.why _ _
+pub returns-in_err-replica : goal.returns-in_err-replica
+returns-in_err-replica c =
+    let p = err_from_is_err_and c.from_residual.result c.from_residual.ensures.1 in
+    rw (p.1, p.2)
+    (still_unmade c.in_err-replica.field-0.0 _ _
     (λ fine. can_join c.args.huts.now c.loop-hut.hut-index _ fine c.loop-hut-test.true (ap (map state_of) c.as_slice.ensures.value ∙ c.loop-hut.invariant.0))
-    c.in-Err.ensures
+    c.in_err-replica.ensures)
 
 pub loop-hut-preserved : goal.loop-hut-preserved
 loop-hut-preserved c =
     let hs = c.args.huts.now in
     let n = c.loop-hut.hut-index in
     let inv = c.loop-hut.invariant in
-    let joined = c.in-Ok-join.ensures in (
-      joined_states hs n (vec_items c.loop-hut.replicas) _ c.in-Ok-join.replica c.loop-hut-test.true inv.0 c.push_reserved.ensures.items joined.2,
+    let joined = c.in_ok-replica.ensures in (
+      joined_states hs n (vec_items c.loop-hut.replicas) _ c.in_ok-replica.replica c.loop-hut-test.true inv.0 c.push_reserved.ensures.items joined.2,
       omega (arith, c.push_reserved.ensures.len, inv.1),
       omega (arith, c.push_reserved.ensures.capacity, inv.2),
       below_more _ _ inv.3 joined.0,
