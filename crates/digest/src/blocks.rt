@@ -13,8 +13,7 @@ pub(crate) fn absorb(state: [u32; 8], bytes: &[u8]) -> ([u32; 8], &[u8])
 {
     let mut s = state;
     let mut rest = bytes;
-    while rest.len() >= 64 {
-        let (block, tail) = rest.split_at(64);
+    while let Some((block, tail)) = rest.split_first_chunk() {
         let next = compress(s, block);
         s = next;
         rest = tail;

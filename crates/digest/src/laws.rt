@@ -2,29 +2,21 @@
 ghost use Rattle.digest.specs.Laws.{PaddingFits, ScheduleRecurs, Published, DigestLong};
 
 // A padded message is whole blocks, with the fewest zeros that do.
-pub fn padding_fits() -> u8
+pub fn padding_fits()
     ensures { PaddingFits }
-{
-    0
-}
+{}
 
 // Each word of a schedule is the block's, or follows from the words before it.
-pub fn schedule_recurs() -> u8
+pub fn schedule_recurs()
     ensures { ScheduleRecurs }
-{
-    0
-}
+{}
 
 // The published examples have their digests.
-pub fn examples_stand() -> u8
+pub fn examples_stand()
     ensures { Published }
-{
-    0
-}
+{}
 
 // A digest is 32 bytes, of whatever message.
-pub fn digest_long() -> u8
+pub fn digest_long()
     ensures { DigestLong }
-{
-    0
-}
+{}

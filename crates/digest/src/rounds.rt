@@ -93,8 +93,7 @@ fn added(x: [u32; 8], y: [u32; 8]) -> [u32; 8]
 }
 
 // The state after one more block.
-pub(crate) fn compress(state: [u32; 8], block: &[u8]) -> [u32; 8]
-    requires { length block.now ≡ 64 }
+pub(crate) fn compress(state: [u32; 8], block: &[u8; 64]) -> [u32; 8]
     ensures { result ≡ compress_of state block.now }
 {
     let mut w = block_words(block);

@@ -5,8 +5,7 @@ ghost use Rattle.digest.specs.Sha256.{words, next_word};
 use crate::words::{small_sigma0, small_sigma1, word_at};
 
 // The sixteen words of a block, with room for forty-eight more.
-pub(crate) fn block_words(block: &[u8]) -> [u32; 64]
-    requires { length block.now ≡ 64 }
+pub(crate) fn block_words(block: &[u8; 64]) -> [u32; 64]
     ensures { result ≡ words 16 block.now ++ replicate 48 0 }
 {
     let mut w = [0u32; 64];

@@ -15,27 +15,24 @@ fn show(rt: &impl Print, length: usize, digest: [u8; 32]) -> anyhow::Result<()> 
 }
 
 // The published texts of 3, 56 and 112 bytes.
+const TEXTS: [&[u8]; 3] = [
+    b"abc",
+    b"abcdbcdecdefdefgefghfghighijhijkijkljklmklmnlmnomnopnopq",
+    b"abcdefghbcdefghicdefghijdefghijkefghijklfghijklmghijklmnhijklmnoijklmnopjklmnopqklmnopqrlmnopqrsmnopqrstnopqrstu",
+];
+
 fn texts(rt: &impl Print) -> anyhow::Result<()> {
-    show(rt, 3, sha256(b"abc"))?;
-    show(
-        rt,
-        56,
-        sha256(b"abcdbcdecdefdefgefghfghighijhijkijkljklmklmnlmnomnopnopq"),
-    )?;
-    show(
-        rt,
-        112,
-        sha256(
-            b"abcdefghbcdefghicdefghijdefghijkefghijklfghijklmghijklmnhijklmnoijklmnopjklmnopqklmnopqrlmnopqrsmnopqrstnopqrstu",
-        ),
-    )
+    for text in TEXTS {
+        show(rt, text.len(), sha256(text))?;
+    }
+    Ok(())
 }
 
 // Some bytes of `a`, whose lengths stand at the edges of the padding.
 fn edges(rt: &impl Print) -> anyhow::Result<()> {
     let letters = [b'a'; 128];
     for length in [0usize, 1, 55, 56, 57, 63, 64, 65, 119, 120, 128] {
-        show(rt, length, sha256(&letters[0..length]))?;
+        show(rt, length, sha256(&letters[..length]))?;
     }
     Ok(())
 }
@@ -55,9 +52,11 @@ fn parts(rt: &impl Print) -> anyhow::Result<()> {
     let letters = [b'a'; 300];
     for size in 0..131 {
         let mut hasher = Hasher::new();
-        hasher.update(&letters[0..size]);
-        hasher.update(&letters[size..2 * size]);
-        hasher.update(&letters[2 * size..300]);
+        let (front, rest) = letters.split_at(size);
+        let (middle, back) = rest.split_at(size);
+        for part in [front, middle, back] {
+            hasher.update(part);
+        }
         if hasher.finish() != sha256(&letters) {
             println!(rt; "parts of {size} bytes differ")?;
         }
@@ -65,13 +64,9 @@ fn parts(rt: &impl Print) -> anyhow::Result<()> {
     show(rt, 300, sha256(&letters))
 }
 
-fn run(rt: &impl Print) -> anyhow::Result<()> {
-    texts(rt)?;
-    edges(rt)?;
-    parts(rt)?;
-    show(rt, 1000000, million())
-}
-
 fn main(rt: HostRuntime) -> anyhow::Result<()> {
-    run(&rt)
+    texts(&rt)?;
+    edges(&rt)?;
+    parts(&rt)?;
+    show(&rt, 1000000, million())
 }

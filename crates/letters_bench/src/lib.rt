@@ -10,14 +10,11 @@ use std::alloc::{AllocError, Global};
 // Opens a letter and goes over its entries: the sum of their stamps and of the first stamps that stood before them, and how many are kept out; 0 if it is damaged.
 #[unsafe(no_mangle)]
 pub extern "C" fn letter_sum(bytes: &[u8]) -> u64 {
-    let Ok(mut letter) = Letter::open(bytes) else {
+    let Ok(letter) = Letter::open(bytes) else {
         return 0;
     };
-    let mut sum = letter.kept_out() as u64;
-    while let Some(item) = letter.next() {
-        sum = sum.wrapping_add(weight(&item));
-    }
-    sum
+    let kept_out = letter.kept_out() as u64;
+    letter.fold(kept_out, |sum, item| sum.wrapping_add(weight(&item)))
 }
 
 fn weight(item: &Item) -> u64 {
@@ -34,10 +31,10 @@ fn weight(item: &Item) -> u64 {
 fn gathered(heap: Global, bytes: &[u8]) -> Result<(Vec<Entry>, Vec<Waiting>), AllocError> {
     let mut committed = Vec::with_capacity(heap, 1024)?;
     let mut tentative = Vec::with_capacity(heap, 1024)?;
-    let Ok(mut letter) = Letter::open(bytes) else {
+    let Ok(letter) = Letter::open(bytes) else {
         return Ok((committed, tentative));
     };
-    while let Some(item) = letter.next() {
+    for item in letter {
         match item {
             Item::Committed { place: _, entry } => {
                 let _ = committed.push(entry);

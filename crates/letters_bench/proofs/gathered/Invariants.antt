@@ -3,4 +3,4 @@ use Rattle.letters.specs.Items.{left}
 use Rattle.letters_bench.proofs.gathered.Given as goal
 
 abbrev pub decreases-loop-item : goal.decreases-loop-item
-decreases-loop-item l = length (left l.letter)
+decreases-loop-item l = length (left l.item-iterator)

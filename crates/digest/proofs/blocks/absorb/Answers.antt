@@ -1,10 +1,13 @@
+use Rattle.std.proofs.Common.{◌≤◌, length, arith}
 use Rattle.digest.proofs.BlockByBlock.{cut_none, cut_more}
 use Rattle.digest.proofs.blocks.absorb.Goals as goal
 
-pub loop-rest-init : goal.loop-rest-init
-loop-rest-init c = cut_none _ _
+pub loop-block-init : goal.loop-block-init
+loop-block-init c = cut_none _ _
 
-pub loop-rest-preserved : goal.loop-rest-preserved
-loop-rest-preserved c =
-    let more = cut_more _ _ _ _ c.loop-rest-test.true c.loop-rest.invariant in
-    rw (← c.split_at.ensures.front, ← c.split_at.ensures.back, ← c.compress-next.ensures) at more
+pub loop-block-preserved : goal.loop-block-preserved
+loop-block-preserved c =
+    let parts = c.in-Some.ensures.cases in
+    let long : 64 ≤ length c.loop-block.rest.now = omega (arith, parts.2) in
+    let more = cut_more _ _ _ _ long c.loop-block.invariant in
+    rw (← parts.0, ← parts.1, ← c.compress-next.ensures) at more

@@ -2,8 +2,8 @@ use Rattle.std.proofs.Common.{length}
 use Rattle.digest.specs.Progress.{Cut}
 use Rattle.digest.proofs.blocks.absorb.Given as goal
 
-abbrev pub invariant-loop-rest : goal.invariant-loop-rest
-invariant-loop-rest l = Cut l.initial.s l.bytes l.s l.rest
+abbrev pub invariant-loop-block : goal.invariant-loop-block
+invariant-loop-block l = Cut l.initial.s l.bytes l.s l.rest
 
-abbrev pub decreases-loop-rest : goal.decreases-loop-rest
-decreases-loop-rest l = length l.rest
+abbrev pub decreases-loop-block : goal.decreases-loop-block
+decreases-loop-block l = length l.rest

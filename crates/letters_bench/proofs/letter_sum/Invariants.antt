@@ -1,6 +1,0 @@
-use Rattle.std.proofs.Common.{length}
-use Rattle.letters.specs.Items.{left}
-use Rattle.letters_bench.proofs.letter_sum.Given as goal
-
-abbrev pub decreases-loop-item : goal.decreases-loop-item
-decreases-loop-item l = length (left l.letter)
