@@ -1,4 +1,9 @@
 // Why a journal did not do what it was asked.
+ghost use Rattle.std.specs.Prelude.{◌≡◌};
+ghost use Rattle.std.specs.IoError.{error_kind};
+ghost use Rattle.std.specs.declared.io.ErrorKind.TheVariants.{OutOfMemory};
+ghost use Rattle.journal.specs.declared.fault.Fault.TheVariants.{Disk};
+
 use std::alloc::AllocError;
 use std::io;
 use std::io::ErrorKind;
@@ -15,12 +20,16 @@ pub enum Fault {
 }
 
 impl From<io::Error> for Fault {
+    ghost from_gives = { λ why e. e ≡ Disk (error_kind why) };
+
     fn from(why: io::Error) -> Fault {
         Fault::Disk(why.kind())
     }
 }
 
 impl From<AllocError> for Fault {
+    ghost from_gives = { λ _ e. e ≡ Disk OutOfMemory };
+
     fn from(_why: AllocError) -> Fault {
         Fault::Disk(ErrorKind::OutOfMemory)
     }
