@@ -2,12 +2,10 @@
 use Rattle.std.proofs.Common.{◌≡◌, ℕ, suc, ◌+◌, ◌-◌, ◌<◌, ◌≤◌, Bool, true, false, cond, eqb, List, [], ◌∷◌, map, length, get_or, Some, None, Option, sym, refl, ap, ◌∙◌, add-one, arith}
 use Rattle.std.specs.List.{position, position_from}
 use Rattle.std.proofs.lemmas.Iterator.Adapters.{position_from-zero}
-use Rattle.std.proofs.lemmas.List.{get_or-map}
 use Rattle.std.proofs.lemmas.Bool.{and_parts, eqb-true}
 use Rattle.bookings.specs.declared.entry.Mark.{Mark}
-use Rattle.bookings.specs.declared.outcome.Outcome.{Outcome}
 use Rattle.bookings.specs.Books.{Standing, same_mark, place_from, standing_at, standing_with}
-use Rattle.bookings.specs.Outcomes.{PlainGrant, PlainOutcome, holds, nothing, cancelled, changed, freed, resized, plain_outcome, held_by}
+use Rattle.bookings.specs.Outcomes.{PlainGrant, PlainOutcome, holds, nothing, cancelled, changed, freed, resized, held_by}
 use Rattle.bookings.specs.Plain.{PlainMark, plain_mark}
 
 -- the place of a mark is that of the first that passes the test
@@ -29,10 +27,6 @@ pub place_within : (m : PlainMark) (i p : ℕ) (ms : List PlainMark) → place_f
 place_within m i p [] e = let z : ◌≡◌ {A = ℕ} 0 1 = cc in absurd (omega arith)
 place_within m i p (n ∷ ns) e =
     place_step m n i p ns (same_mark m n) (λ e. let rest = place_within m (suc i) p ns e in (omega arith, omega arith)) e
-
-pub outcome_there :
-    (os : List Outcome) (p : ℕ) (o : Outcome) → p < length os → o ≡ get_or os p o → get_or (map plain_outcome os) p nothing ≡ plain_outcome o
-outcome_there os p o h is = get_or-map plain_outcome os p o nothing h ∙ ap plain_outcome (sym is)
 
 -- what holds a choice is a booking that holds it
 pub held_is : (o : PlainOutcome) (g : PlainGrant) → Some g ≡ held_by o → o ≡ holds g

@@ -1,12 +1,12 @@
 -- A log with a committed entry more.
-use Rattle.std.proofs.Common.{◌≡◌, ℕ, suc, ◌+◌, ◌-◌, ◌<◌, ◌≤◌, true, false, List, [], ◌∷◌, ◌++◌, map, length, get_or, take, drop, Some, None, sym, ap, ◌∙◌, subst, ⊎_elim, arith, length-drop}
-use Rattle.std.proofs.lemmas.List.{append_assoc, length_push, take_at, drop_at, take-append-drop, drop-drop, take-map, drop-map, map-append, length-take-le, get_or-drop, drop_more, drop_all, take_more}
+use Rattle.std.proofs.Common.{◌≡◌, ℕ, suc, ◌+◌, ◌-◌, ◌<◌, ◌≤◌, true, false, List, [], ◌∷◌, ◌++◌, map, length, get_or, take, drop, Some, sym, ap, ◌∙◌, subst, ⊎_elim, arith, length-drop}
+use Rattle.std.proofs.lemmas.List.{append_assoc, length_push, take_at, drop_at, take-append-drop, drop-drop, take-map, drop-map, map-append, length-take-le, get_or-drop, drop_more, take_more}
 use Rattle.std.proofs.lemmas.Bool.{cases_Bool, and_parts}
 use Rattle.std.specs.List.{insert, remove}
 use Rattle.bookings.proofs.Find.{same_is}
 use Rattle.bookings.specs.Books.{same_mark}
 use Rattle.bookings.specs.Plain.{PlainEntry}
-use Rattle.entry_log.specs.Logs.{PlainLog, has, without, add_committed, first_mark, first_entry, commit_first_of, commit_first}
+use Rattle.entry_log.specs.Logs.{PlainLog, has, without, add_committed, first_entry, commit_first_of, commit_first}
 use Rattle.entry_log.specs.Order.{all_behind, ascends, times, Once}
 use Rattle.entry_log.specs.Room.{moved_to}
 use Rattle.entry_log.proofs.Putting.{times-append, times-without, times_gone, has_none, one_more, none_more, without_removed, without_none, none_has, same_self}
@@ -85,9 +85,6 @@ module _ (xs : List PlainEntry) (c : ℕ) (e : PlainEntry) (there : c < length x
   next_is : drop c xs ≡ e ∷ drop (c + 1) xs
   next_is = drop_more xs c e there ∙ ap (λ x. x ∷ drop (c + 1) xs) (sym is)
 
-  pub next_mark_lem : first_mark (drop c xs) ≡ Some e.mark
-  next_mark_lem = ap first_mark next_is
-
   pub next_ascends : ascends (drop c xs) ≡ true → ascends (drop (c + 1) xs) ≡ true
   next_ascends sorted = (and_parts (all_behind e.mark (drop (c + 1) xs)) (ascends (drop (c + 1) xs)) (ap ascends (sym next_is) ∙ sorted)).1
 
@@ -101,9 +98,6 @@ module _ (xs : List PlainEntry) (c : ℕ) (e : PlainEntry) (there : c < length x
       ∙ ap (λ l. record { committed = take c xs ++ e ∷ []; tentative = l }) (sym gone)
       ∙ ap (λ l. add_committed e (record { committed = take c xs; tentative = l })) (sym next_is)
       ∙ sym (ap (λ l. commit_first_of l (cut_at c xs)) next_is)
-
-pub none_next : (xs : List PlainEntry) (c : ℕ) → length xs ≤ c → (cut_at c xs ≡ commit_first (cut_at c xs)) × (None ≡ first_mark (drop c xs))
-none_next xs c past = let none = drop_all c xs past in (sym (ap (λ l. commit_first_of l (cut_at c xs)) none), sym (ap first_mark none))
 
 -- to commit the first tentative entry is to add it as committed
 pub first_added : (e : PlainEntry) (l : PlainLog) (ts : List PlainEntry) → first_entry ts ≡ Some e → commit_first_of ts l ≡ add_committed e l

@@ -35,11 +35,6 @@ first_there part xs c e lent some is =
       sym (entry_there part 0 e (plain e) some is) ∙ ap (λ l. get_or l 0 (plain e)) lent ∙ get_or-drop c xs 0 (plain e) ∙ ap (λ i. get_or xs i (plain e)) at,
     )
 
-pub none_there : (part : List Entry) (xs : List PlainEntry) (c : ℕ) → map plain part ≡ drop c xs → length part ≤ 0 → length xs ≤ c
-none_there part xs c lent none =
-    let long = sym (length-map part plain) ∙ ap length lent ∙ length-drop c xs in
-    omega arith
-
 -- the first of a part is an entry just where they mean the same
 pub first_decides :
     (part : List Entry) (r : Option (Bor Entry)) (e : Bor Entry) → MatchOption r (length part ≤ 0) (λ x. (0 < length part) × HoldsAt (λ y. x.now ≡ y) part 0)

@@ -1,22 +1,15 @@
 use Rattle.std.proofs.Common.{◌≡◌, ◌+◌, ◌≤◌, false, map, length, take, drop, vec_items, vec_len, sym, ap, ◌∙◌, subst, arith}
 use lib.ListN.{length-map}
 use Rattle.std.proofs.lemmas.List.Edits.{length-insert}
-use Rattle.std.proofs.lemmas.List.{take-append-drop, length-take-le}
+use Rattle.std.proofs.lemmas.List.{take-append-drop}
 use Rattle.std.specs.List.{insert}
 use Rattle.bookings.specs.Plain.{plain}
-use Rattle.entry_log.specs.Logs.{has, spot, into}
+use Rattle.entry_log.specs.Logs.{has, into}
 use Rattle.entry_log.specs.Order.{ascends, Once}
-use Rattle.entry_log.specs.Views.{log_in}
 use Rattle.entry_log.proofs.Inserting.{map-inserted, inserted-committed, inserted-tentative, inserted_once}
 use Rattle.entry_log.proofs.Putting.{into-ascends, has-drop}
 use Rattle.entry_log.proofs.log.Log.insert.Goals as goal
 use Rattle.entry_log.proofs.log.Log.insert.Goals.{After-insert_at}
-
-pub insert_at-requires : goal.insert_at-requires
-insert_at-requires c =
-    let was = c.args.self.now in
-    let whole = ap length (take-append-drop was.committed (map plain (vec_items was.entries))) ∙ length-map (vec_items was.entries) plain in
-    record { within = c.place_for-place.ensures.within; room = omega (arith, c.requires.room, was.entries.ok.0, was.room) }
 
 -- the log's entries with one more
 after : (c : After-insert_at) → map plain (vec_items c.insert_at.new.entries) ≡ insert (map plain (vec_items c.args.self.now.entries)) c.place_for-place.result (plain c.args.entry)
@@ -59,11 +52,8 @@ invariant_of-self c =
       room = (omega (arith, longer c, c.requires.room, was.entries.ok.0), omega (arith, c.insert_at.ensures.capacity, was.room));
     }
 
-pub returns : goal.returns
-returns c =
-    let there = (goal.at.returns c).After-insert_at in
-    record {
-      log = ap (λ l. record { committed = l; tentative = drop c.args.self.now.committed (map plain (vec_items c.insert_at.new.entries)) }) (first_part there)
-          ∙ ap (λ l. record { committed = take c.args.self.now.committed (map plain (vec_items c.args.self.now.entries)); tentative = l }) (second_part there);
-      place = c.place_for-place.ensures.value ∙ ap (λ n. n + spot (plain c.args.entry).mark (log_in c.args.self.now).tentative) (sym (length-take-le c.args.self.now.committed _ (within there)));
-    }
+pub returns-clause-log : goal.returns-clause-log
+returns-clause-log c =
+    let there = (goal.at.returns-clause-log c).After-insert_at in
+    ap (λ l. record { committed = l; tentative = drop c.args.self.now.committed (map plain (vec_items c.insert_at.new.entries)) }) (first_part there)
+    ∙ ap (λ l. record { committed = take c.args.self.now.committed (map plain (vec_items c.args.self.now.entries)); tentative = l }) (second_part there)

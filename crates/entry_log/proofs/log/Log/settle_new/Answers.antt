@@ -12,12 +12,6 @@ use Rattle.entry_log.proofs.Settling.{placed_committed, placed_tentative, parts_
 use Rattle.entry_log.proofs.log.Log.settle_new.Goals as goal
 use Rattle.entry_log.proofs.log.Log.settle_new.Goals.{After-insert_at}
 
-pub insert_at-requires : goal.insert_at-requires
-insert_at-requires c =
-    let was = c.args.self.now in
-    let whole = ap length (take-append-drop was.committed (map plain (vec_items was.entries))) ∙ length-map (vec_items was.entries) plain in
-    record { within = was.within; room = omega (arith, c.requires.room, was.entries.ok.0, was.room) }
-
 module _ (c : After-insert_at) where
   after : map plain (vec_items c.insert_at.new.entries) ≡ insert (map plain (vec_items c.args.self.now.entries)) c.args.self.now.committed (plain c.args.entry)
   after = ap (map plain) c.insert_at.ensures.items ∙ map-inserted plain (vec_items c.args.self.now.entries) c.args.self.now.committed c.args.entry
