@@ -6,6 +6,7 @@ ghost use Rattle.digest.specs.Progress.{Along};
 use crate::constants::ROUND;
 use crate::schedule::{block_words, store_next};
 use crate::words::{big_sigma0, big_sigma1, ch, maj};
+use std::array;
 
 // One round on the eight words of the state.
 fn round(state: [u32; 8], k: u32, w: u32) -> [u32; 8]
@@ -85,11 +86,7 @@ fn late_rounds(state: [u32; 8], w: &[u32; 64]) -> [u32; 8]
 fn added(x: [u32; 8], y: [u32; 8]) -> [u32; 8]
     ensures { result ≡ sums x y }
 {
-    let mut out = [0u32; 8];
-    for i in 0..8 {
-        out[i] = x[i].wrapping_add(y[i]);
-    }
-    out
+    array::from_fn(|i| x[i].wrapping_add(y[i]))
 }
 
 // The state after one more block.

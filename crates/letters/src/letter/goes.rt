@@ -1,6 +1,6 @@
 // Going over the entries of a letter.
-ghost use Rattle.std.specs.Prelude.{◌≡◌, [], ◌∷◌, MatchOption, ⊤};
-ghost use Rattle.std.specs.Iterator.{YieldsFirstBy, MakesProgress, item_count};
+ghost use Rattle.std.specs.Prelude.{◌≡◌, [], ◌∷◌, MatchOption};
+ghost use Rattle.std.specs.Iterator.{YieldsFirstBy, item_count};
 ghost use Rattle.letters.specs.Items.{committed_left, tentative_left, left, plain_item};
 
 use super::{Item, Letter};
@@ -57,9 +57,22 @@ impl<'a> Letter<'a> {
             }
         }
     }
+
+    // The next entry of the letter, in its order.
+    pub fn next(&mut self) -> Option<Item>
+        ensures next { MatchOption result
+            ((left self.old ≡ []) × (left self.new ≡ []))
+            (λ i. left self.old ≡ plain_item i ∷ left self.new) }
+        ensures out { self.new.out ≡ self.old.out }
+    {
+        match self.next_committed() {
+            Some(item) => Some(item),
+            None => self.next_tentative(),
+        }
+    }
 }
 
-// The entries of the letter, in its order.
+// So that a `for` goes over the entries of a letter.
 impl<'a> Iterator for Letter<'a> {
     type Item = Item;
 
@@ -67,16 +80,7 @@ impl<'a> Iterator for Letter<'a> {
 
     ghost remaining = { item_count left };
 
-    fn next(&mut self) -> Option<Item>
-        ensures next { MatchOption result
-            ((left self.old ≡ []) × (left self.new ≡ []))
-            (λ i. left self.old ≡ plain_item i ∷ left self.new) }
-        ensures out { self.new.out ≡ self.old.out }
-        ensures goes { MakesProgress (λ _. ⊤) (item_count left) self.old result self.new }
-    {
-        match self.next_committed() {
-            Some(item) => Some(item),
-            None => self.next_tentative(),
-        }
+    fn next(&mut self) -> Option<Item> {
+        Letter::next(self)
     }
 }
