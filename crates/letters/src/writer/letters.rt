@@ -40,10 +40,7 @@ fn put_body(out: &mut Vec<u8>, place: u32, committed: &[Entry], tentative: &[Wai
 fn place_of(place: u32, committed: &[Entry]) -> u32
     ensures { result ≡ (if nat_eq (length committed.now) 0 then 0 else place) }
 {
-    if committed.len() == 0 {
-        return 0;
-    }
-    place
+    if committed.is_empty() { 0 } else { place }
 }
 
 // Puts a letter behind the bytes of a buffer, in the memory that it has.
