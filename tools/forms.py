@@ -1,14 +1,15 @@
 #!/usr/bin/env python3
 """Counts the older forms in crates/*/src, a row for each kind of place.
 
-    tools/forms.py [--list KIND]     at the top of the repository
+    tools/forms.py               the rows, with the point of docs/DESIGN-PASS.md to which each belongs
+    tools/forms.py --list KIND   the places of one row
 """
 import re
 import sys
 from collections import defaultdict
 from pathlib import Path
 
-# (point, name, pattern over a whole file)
+# (point, kind, pattern over a whole file)
 PATTERNS = [
     (1, "option-else-none", r"else \{\s*return None;\s*\}"),
     (1, "option-none-none", r"None => None\b"),
@@ -29,7 +30,11 @@ PATTERNS = [
     (4, "own-printing", r"struct (Reason|Stamps|Digits|CutOff)\b"),
     (6, "length-beside", r"^\s+(pub )?(count|filled): (u8|usize),"),
     (6, "parallel", r"^\s+(marks|outcomes|beds|booked): Vec<"),
+    (7, "step-switch", r"\bfn\([^)]*\)( ->|[,;>])|\bdyn \w|match (step|phase|mode)\b"),
 ]
+
+TOKEN = re.compile(r'b?"(?:[^"\\]|\\.)*"|[A-Za-z_]\w*|\d\w*|->|=>|::|[^\s\w]')
+WORDS = {"match", "if", "else", "for", "in", "while", "let", "return", "Some", "None", "Ok", "Err", "mut", "self", "struct", "enum", "ghost", "as"}
 
 
 def sources():
@@ -41,15 +46,32 @@ def places(pattern):
     found = []
     for path, text in sources():
         for match in re.finditer(pattern, text, re.M):
-            line = text.count("\n", 0, match.start()) + 1
-            if text[match.start()] == "\n":
-                line += 1
-            found.append(f"{path}:{line}")
+            start = match.start() + len(match.group(0)) - len(match.group(0).lstrip("\n"))
+            found.append(f"{path}:{text.count(chr(10), 0, start) + 1}")
     return found
 
 
-def repeated_clauses():
-    """Clauses that stand, name for name, in three functions or more."""
+def shape(text):
+    """A text with its names, numbers and strings left out."""
+    text = re.sub(r"//[^\n]*", "", text)
+    return " ".join(t if t in WORDS or not (t[0].isalnum() or t[0] in '_"b') else "_" for t in TOKEN.findall(text))
+
+
+def twins():
+    """Functions of one crate, or types, whose bodies have the same shape."""
+    groups = defaultdict(list)
+    for path, text in sources():
+        crate = path.parts[1]
+        for match in re.finditer(r"^( *)(?:pub(?:\(crate\))? )?(?:fn|struct|enum) (\w+)[^{;]*?(?:\n(?: *)?(?:requires|ensures)[^\n]*(?:\n {8,}[^\n]*)*)*\n?[^{;]*?\{\n(.*?)^\1\}", text, re.M | re.S):
+            form = shape(match.group(3))
+            if len(form.split()) >= 12:
+                line = text.count("\n", 0, match.start()) + 1
+                groups[crate, form].append(f"{path}:{line} {match.group(2)}")
+    return [found for found in groups.values() if len(found) > 1]
+
+
+def clauses():
+    """Clauses that stand, word for word, in three functions or more."""
     where = defaultdict(list)
     for path, text in sources():
         for match in re.finditer(r"^\s+(requires|ensures) (?:\w+ )?(\{.*\})$", text, re.M):
@@ -58,20 +80,29 @@ def repeated_clauses():
     return {clause: found for clause, found in where.items() if len(found) > 2}
 
 
-def main():
-    if len(sys.argv) > 2:
-        if sys.argv[2] == "clauses":
-            for clause, found in sorted(repeated_clauses().items()):
-                print(clause, *found, sep="\n    ")
-            return
-        for _, name, pattern in PATTERNS:
-            if name == sys.argv[2]:
-                print(*places(pattern), sep="\n")
-        return
-    for point, name, pattern in PATTERNS:
-        print(f"{point} {name:20} {len(places(pattern)):4}")
-    clauses = repeated_clauses()
-    print(f"5 {'clauses':20} {len(clauses):4}  in {sum(map(len, clauses.values()))} functions")
+def listed(kind):
+    if kind == "twins":
+        for found in twins():
+            print(*found, sep="\n    ")
+    elif kind == "clauses":
+        for clause, found in sorted(clauses().items()):
+            print(clause, *found, sep="\n    ")
+    for _, name, pattern in PATTERNS:
+        if name == kind:
+            print(*places(pattern), sep="\n")
 
 
-main()
+def rows():
+    counts = [(point, name, f"{len(places(pattern)):4}") for point, name, pattern in PATTERNS]
+    groups = twins()
+    counts.append((2, "twins", f"{len(groups):4} groups of {sum(map(len, groups))}"))
+    facts = clauses()
+    counts.append((5, "clauses", f"{len(facts):4} in {sum(map(len, facts.values()))} places"))
+    for point, name, count in sorted(counts, key=lambda row: row[0]):
+        print(point, f"{name:20}", count)
+
+
+if len(sys.argv) > 2 and sys.argv[1] == "--list":
+    listed(sys.argv[2])
+else:
+    rows()
