@@ -20,7 +20,7 @@ PATTERNS = [
     (1, "flag-field", r"^\s+(pub(\(crate\))? )?\w+: bool,"),
     (1, "number-for-nothing", r"-> u8\n\s+ensures \{[^\n]*\}\n\{\n\s+0\n\}"),
     (1, "number-for-a-kind", r"Refusal::\w+ => \d|^\s+[1-4] => |put\(out, &\[[1-4][,\]]"),
-    (3, "index-loop", r"^\s+(for \w+ in [^{\n]*\.\.[^{\n]*\{|while [^l])"),
+    (3, "index-loop", r"^\s+(for \w+ in [^&{\n]*\.\.[^{\n]*\{|while [^l])"),
     (3, "cursor-loop", r"^\s+(while let|loop) "),
     (3, "loop-that-finds", r"for [^{]*\{\s*(let [^;]*;\s*)?if [^{]*\{\s*return [^;]*;\s*\}\s*\}"),
     (4, "own-equality", r"fn is_same\w*\("),
