@@ -26,15 +26,14 @@ impl Hex<'_> {
             (λ _. vec_capacity out.old < vec_len out.old + length (bytes_of self.entry.digits.now)) }
         ensures capacity { vec_capacity out.new ≡ vec_capacity out.old }
     {
-        let digits = self.digits;
         let count = self.len();
         if out.capacity() - out.len() < count {
             return Err(NoRoom);
         }
-        for i in 0..count {
-            let high = value(digits[2 * i]);
-            let low = value(digits[2 * i + 1]);
-            out.push_reserved(high * 16 + low);
+        let mut left = self.digits;
+        while let [high, low, behind @ ..] = left {
+            out.push_reserved(value(*high) * 16 + value(*low));
+            left = behind;
         }
         Ok(())
     }

@@ -18,14 +18,17 @@ impl RawChoices {
             nights: 0,
             beds: 0,
         }; 4];
-        let count = numbers.len() / 4;
-        for i in 0..count {
-            all[i] = RawChoice {
-                hut: numbers[4 * i],
-                night: numbers[4 * i + 1],
-                nights: numbers[4 * i + 2],
-                beds: numbers[4 * i + 3],
+        let mut count = 0;
+        let mut left = numbers;
+        while let [hut, night, nights, beds, behind @ ..] = left {
+            all[count] = RawChoice {
+                hut: *hut,
+                night: *night,
+                nights: *nights,
+                beds: *beds,
             };
+            count += 1;
+            left = behind;
         }
         Some(RawChoices { count, all })
     }
