@@ -5,8 +5,8 @@ mod forms;
 mod full;
 mod ranges;
 
-use anyhow::anyhow;
 use bookings::entry::{Choice, Choices, Entry, Kind, Mark, Stay};
+use bookings::refusal::Refusal;
 use entry_log::vector::Vector;
 use entry_log::waiting::Waiting;
 use letters::letter::{Item, Letter};
@@ -14,13 +14,10 @@ use letters::writer::{LETTER_ROOM, write_letter};
 use std::alloc::Global;
 
 // Hut 1 books 20 beds of hut 5 on night 9 for guest 7.
-pub fn booking(stamp: u32) -> anyhow::Result<Entry> {
-    let mark = Mark::new(stamp as u64, 1).map_err(|_| anyhow!("no mark"))?;
-    let stay = Stay::new(5, 9, 1).map_err(|_| anyhow!("no stay"))?;
-    let choice = Choice::new(stay, 20).map_err(|_| anyhow!("no choice"))?;
-    let choices = Choices::none()
-        .with(choice)
-        .map_err(|_| anyhow!("no choices"))?;
+pub fn booking(stamp: u32) -> Result<Entry, Refusal> {
+    let mark = Mark::new(u64::from(stamp), 1)?;
+    let stay = Stay::new(5, 9, 1)?;
+    let choices = Choices::none().with(Choice::new(stay, 20)?)?;
     let kind = Kind::Book { guest: 7, choices };
     Ok(Entry { mark, kind })
 }

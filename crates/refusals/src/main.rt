@@ -1,14 +1,12 @@
 // A table with a row for each call of a replica and each number by which it refuses.
 #![tactic(auto)]
 
-use anyhow::anyhow;
 use bookings::entry::{Choices, Entry, Kind, Mark};
 use bookings::refusal::Refusal;
 use console::answer::Answer;
 use entry_log::vector::Vector;
 use replica::fault::Fault;
 use replica::replica::Replica;
-use std::alloc::Global;
 
 // One row: a call, and how it refused, if it did.
 fn row<T: Copy>(rt: &impl Print, call: &str, done: Result<T, Refusal>) -> anyhow::Result<()> {
@@ -20,13 +18,6 @@ fn row<T: Copy>(rt: &impl Print, call: &str, done: Result<T, Refusal>) -> anyhow
         }
     }
     Ok(())
-}
-
-fn open(heap: Global, hut: u8) -> anyhow::Result<Replica> {
-    let Ok(replica) = Replica::new(heap, hut) else {
-        return Err(anyhow!("no replica"));
-    };
-    Ok(replica)
 }
 
 // A booking that wants nothing.
@@ -172,12 +163,12 @@ fn table(rt: &HostRuntime) -> anyhow::Result<()> {
         _ => Ok(()),
     };
     row(rt, "open hut 16", refused)?;
-    let mut replica = open(heap, 1)?;
+    let mut replica = Replica::new(heap, 1)?;
     make_and_ask(rt, &mut replica)?;
     take_tentative(rt, &mut replica)?;
     take_committed(rt, &mut replica)?;
     out_of_stamps(rt, &mut replica)?;
-    let mut full = open(heap, 0)?;
+    let mut full = Replica::new(heap, 0)?;
     fill(&mut full);
     out_of_room(rt, &mut full)
 }

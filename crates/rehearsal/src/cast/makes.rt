@@ -24,9 +24,7 @@ impl Cast {
         if huts.is_empty() || huts.len() > LIMIT {
             return Err(Fault::Refused(Refusal::OutOfRange));
         }
-        let Ok(mut replicas) = Vec::with_capacity(heap, LIMIT) else {
-            return Err(Fault::Memory);
-        };
+        let mut replicas = Vec::with_capacity(heap, LIMIT)?;
         for hut in huts {
             let replica = join(heap, replicas.as_slice(), *hut)?;
             replicas.push_reserved(replica);
@@ -58,10 +56,7 @@ pub(crate) fn place_of(replicas: &[Replica], hut: u64) -> Option<usize>
     ensures { MatchOption result (Absent hut (map state_of replicas.now))
         (λ p. (p < length replicas.now) × ((slice_index_or (map state_of replicas.now) p (fresh 0)).hut ≡ hut)) }
 {
-    for (place, replica) in replicas.iter().enumerate() {
-        if replica.hut() as u64 == hut {
-            return Some(place);
-        }
-    }
-    None
+    replicas
+        .iter()
+        .position(|replica| u64::from(replica.hut()) == hut)
 }
