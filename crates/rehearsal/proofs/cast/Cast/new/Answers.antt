@@ -8,7 +8,7 @@ use Rattle.rehearsal.proofs.cast.Cast.new.Goals as goal
 
 pub returns-in_err-replica : goal.returns-in_err-replica
 returns-in_err-replica c =
-    let p = err_from_is_err_and c.from_residual.result c.from_residual.ensures.1 in
+    let p = err_from_is_err_and c.from_residual-in_err-replica.result c.from_residual-in_err-replica.ensures.1 in
     rw (p.1, p.2)
     (still_unmade c.in_err-replica.field-0.0 _ _
     (λ fine. can_join c.args.huts.now c.loop-hut.hut-index _ fine c.loop-hut-test.true (ap (map state_of) c.as_slice.ensures.value ∙ c.loop-hut.invariant.0))
