@@ -29,10 +29,7 @@ impl Numbers {
             if count == 18 {
                 return None;
             }
-            let Some(n) = read_number(word) else {
-                return None;
-            };
-            all[count] = n;
+            all[count] = read_number(word)?;
             count += 1;
             left = rest;
         }

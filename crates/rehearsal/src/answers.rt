@@ -39,9 +39,7 @@ pub fn noted(replica: &Replica, hut: u8, night: u16) -> Option<Answer>
     requires { (hut < 16) × (night < 366) }
     ensures { result ≡ noted_on (book_of (all_of (state_of replica.now).log)) hut night }
 {
-    let Ok(found) = replica.night(hut as u64, night as u64) else {
-        return None;
-    };
+    let found = replica.night(u64::from(hut), u64::from(night)).ok()?;
     if found.beds == 20 && found.booked == 0 {
         return None;
     }

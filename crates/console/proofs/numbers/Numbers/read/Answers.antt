@@ -7,16 +7,17 @@ pub returns-then-count-eq18 : goal.returns-then-count-eq18
 returns-then-count-eq18 c =
     sym c.loop-word.invariant.0 ∙ numbers_too_many (18 - c.loop-word.count) _ _ _ _ (omega arith) c.in-Some.ensures.0
 
-pub returns-in_default-read_number : goal.returns-in_default-read_number
-returns-in_default-read_number c =
-    sym c.loop-word.invariant.0 ∙ numbers_bad (18 - c.loop-word.count) (18 - (c.loop-word.count + 1)) _ _ _ _ (omega arith) c.in-Some.ensures.0
-    c.in_default-read_number.ensures
+pub returns-in_err-all : goal.returns-in_err-all
+returns-in_err-all c =
+    rw c.from_residual.ensures
+    (sym c.loop-word.invariant.0 ∙ numbers_bad (18 - c.loop-word.count) (18 - (c.loop-word.count + 1)) _ _ _ _ (omega arith) c.in-Some.ensures.0
+    c.in_err-all.ensures)
 
 pub loop-word-preserved : goal.loop-word-preserved
 loop-word-preserved c = (
-  sym (numbers_on (18 - c.loop-word.count) (18 - (c.loop-word.count + 1)) c.in-Some-read_number.n _ _ _ _ _ (omega arith)
-      c.in-Some.ensures.0 c.in-Some-read_number.ensures
-      (take_more_set c.loop-word.all c.loop-word.count c.in-Some-read_number.n (omega arith))) ∙ c.loop-word.invariant.0,
+  sym (numbers_on (18 - c.loop-word.count) (18 - (c.loop-word.count + 1)) c.in_ok-all.field-0 _ _ _ _ _ (omega arith)
+      c.in-Some.ensures.0 c.in_ok-all.ensures
+      (take_more_set c.loop-word.all c.loop-word.count c.in_ok-all.field-0 (omega arith))) ∙ c.loop-word.invariant.0,
   omega arith,
   search (rules, length-set),
 )
