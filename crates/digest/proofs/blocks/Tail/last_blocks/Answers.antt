@@ -9,4 +9,4 @@ returns-then-fits c =
 pub returns-else-fits : goal.returns-else-fits
 returns-else-fits c =
     rw (c.with_length-else-fits.ensures, c.compress-else-fits.ensures, c.end_marked-block.ensures) at c.compress-else-fits-2.ensures
-    ∙ two_last_blocks _ _ _ (omega arith) (omega arith)
+    ∙ two_last_blocks _ _ _ (omega arith) c.args.self.short
