@@ -6,10 +6,17 @@ ghost use Rattle.digest.specs.Progress.{Cut};
 use crate::rounds::compress;
 use crate::words::to_bytes;
 
-// Takes in the whole blocks of some bytes, and gives the state after them with the bytes that are left.
-pub(crate) fn absorb(state: [u32; 8], bytes: &[u8]) -> ([u32; 8], &[u8])
-    ensures short { length result.1.now < 64 }
-    ensures cut { Cut state bytes.now result.0 result.1.now }
+// What stands after the whole blocks of a message: the state, and the bytes that are left, which are fewer than a block.
+#[derive(Clone, Copy)]
+pub(crate) struct Tail<'a> {
+    pub(crate) state: [u32; 8],
+    pub(crate) rest: &'a [u8],
+    ghost short: { length rest.now < 64 },
+}
+
+// Takes in the whole blocks of some bytes.
+pub(crate) fn absorb(state: [u32; 8], bytes: &[u8]) -> Tail<'_>
+    ensures { Cut state bytes.now result.state result.rest.now }
 {
     let mut s = state;
     let mut rest = bytes;
@@ -18,19 +25,7 @@ pub(crate) fn absorb(state: [u32; 8], bytes: &[u8]) -> ([u32; 8], &[u8])
         s = next;
         rest = tail;
     }
-    (s, rest)
-}
-
-// A block of the bytes that are left, the byte that ends a message, and zeros.
-fn end_marked(rest: &[u8]) -> [u8; 64]
-    requires { length rest.now < 64 }
-    ensures { result ≡ rest.now ++ (0x80 ∷ replicate (63 - length rest.now) 0) }
-{
-    let mut block = [0u8; 64];
-    let n = rest.len();
-    block[0..n].copy_from_slice(rest);
-    block[n] = 0x80;
-    block
+    Tail { state: s, rest }
 }
 
 // The block with a message's length in its last eight bytes.
@@ -42,24 +37,35 @@ fn with_length(block: [u8; 64], bits: u64) -> [u8; 64]
     last
 }
 
-// The state after the bytes that are left and the padding, which come to one block or two.
-fn last_blocks(state: [u32; 8], rest: &[u8], bits: u64) -> [u32; 8]
-    requires { length rest.now < 64 }
-    ensures { result ≡ absorbed state (rest.now ++ padding (length rest.now) bits) }
-{
-    let block = end_marked(rest);
-    let fits = rest.len() < 56;
-    if fits {
-        compress(state, &with_length(block, bits))
-    } else {
-        compress(compress(state, &block), &with_length([0; 64], bits))
+impl Tail<'_> {
+    // A block of the bytes that are left, the byte that ends a message, and zeros.
+    fn end_marked(self) -> [u8; 64]
+        ensures { result ≡ self.entry.rest.now ++ (0x80 ∷ replicate (63 - length self.entry.rest.now) 0) }
+    {
+        let mut block = [0u8; 64];
+        let n = self.rest.len();
+        block[0..n].copy_from_slice(self.rest);
+        block[n] = 0x80;
+        block
     }
-}
 
-// The digest of a message of `count` bytes, from the state after its whole blocks and the bytes that are left.
-pub(crate) fn finished(state: [u32; 8], rest: &[u8], count: u64) -> [u8; 32]
-    requires { length rest.now < 64 }
-    ensures { (m : List ℕ) → Cut initial m state rest.now → count ≡ length m % 2 ^ 64 → result ≡ digest_of m }
-{
-    to_bytes(last_blocks(state, rest, count.wrapping_mul(8)))
+    // The state after the bytes that are left and the padding, which come to one block or two.
+    fn last_blocks(self, bits: u64) -> [u32; 8]
+        ensures { result ≡ absorbed self.entry.state (self.entry.rest.now ++ padding (length self.entry.rest.now) bits) }
+    {
+        let block = self.end_marked();
+        let fits = self.rest.len() < 56;
+        if fits {
+            compress(self.state, &with_length(block, bits))
+        } else {
+            compress(compress(self.state, &block), &with_length([0; 64], bits))
+        }
+    }
+
+    // The digest of the message, which has `count` bytes.
+    pub(crate) fn finished(self, count: u64) -> [u8; 32]
+        ensures { (m : List ℕ) → Cut initial m self.entry.state self.entry.rest.now → count ≡ length m % 2 ^ 64 → result ≡ digest_of m }
+    {
+        to_bytes(self.last_blocks(count.wrapping_mul(8)))
+    }
 }

@@ -4,7 +4,7 @@
 ghost use Rattle.std.specs.Prelude.{◌≡◌};
 ghost use Rattle.digest.specs.Sha256.{digest_of};
 
-use blocks::{absorb, finished};
+use blocks::absorb;
 use constants::INITIAL;
 
 mod blocks;
@@ -21,6 +21,5 @@ pub use hasher::Hasher;
 pub fn sha256(message: &[u8]) -> [u8; 32]
     ensures { result ≡ digest_of message.now }
 {
-    let (state, rest) = absorb(INITIAL, message);
-    finished(state, rest, message.len() as u64)
+    absorb(INITIAL, message).finished(message.len() as u64)
 }

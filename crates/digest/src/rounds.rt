@@ -52,8 +52,8 @@ fn early_rounds(state: [u32; 8], w: &mut [u32; 64]) -> [u32; 8]
     ensures { (block : List ℕ) → Along block state 0 state w.old → Along block state 48 result w.new }
 {
     let mut s = state;
-    for i in 0..12 {
-        let next = four_early(s, w, 4 * i);
+    for t in (0..48).step_by(4) {
+        let next = four_early(s, w, t);
         s = next;
     }
     s
@@ -75,8 +75,8 @@ fn late_rounds(state: [u32; 8], w: &[u32; 64]) -> [u32; 8]
     ensures { (s : List ℕ) → state ≡ rounds 48 s w.now → result ≡ rounds 64 s w.now }
 {
     let mut s = state;
-    for i in 12..16 {
-        let next = four_late(s, w, 4 * i);
+    for t in (48..64).step_by(4) {
+        let next = four_late(s, w, t);
         s = next;
     }
     s

@@ -4,4 +4,4 @@ use Rattle.digest.proofs.sha256.Goals as goal
 
 pub returns : goal.returns
 unfolding initial
-returns c = c.finished.ensures c.args.message.now c.absorb.ensures.cut (omega arith)
+returns c = c.finished.ensures c.args.message.now c.absorb.ensures (omega arith)

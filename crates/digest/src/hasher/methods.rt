@@ -4,7 +4,7 @@ ghost use Rattle.digest.specs.Sha256.{digest_of};
 ghost use Rattle.digest.specs.Fed.{Fed};
 
 use super::Hasher;
-use crate::blocks::{absorb, finished};
+use crate::blocks::{Tail, absorb};
 use crate::constants::INITIAL;
 use crate::rounds::compress;
 
@@ -48,7 +48,7 @@ impl Hasher {
         } else {
             let (front, back) = part.split_at(room);
             let full = laid(self.block, filled, front);
-            let (state, rest) = absorb(compress(self.state, &full), back);
+            let Tail { state, rest } = absorb(compress(self.state, &full), back);
             *self = Hasher {
                 state,
                 block: laid(full, 0, rest),
@@ -68,6 +68,10 @@ impl Hasher {
             filled,
             count,
         } = self;
-        finished(state, &block[0..filled], count)
+        let tail = Tail {
+            state,
+            rest: &block[0..filled],
+        };
+        tail.finished(count)
     }
 }

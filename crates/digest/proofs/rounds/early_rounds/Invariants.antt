@@ -1,8 +1,11 @@
-use Rattle.std.proofs.Common.{◌≡◌, ℕ, ◌*◌, List, length}
+use Rattle.std.proofs.Common.{◌≡◌, ℕ, ◌-◌, ◌%◌, ◌≤◌, List}
 use Rattle.digest.specs.Progress.{Along}
 use Rattle.digest.proofs.rounds.early_rounds.Given as goal
 
-abbrev pub invariant-loop-i : goal.invariant-loop-i
-invariant-loop-i l =
-    (length l.w ≡ 64)
-    × ((block : List ℕ) → Along block l.initial.s 0 l.initial.s l.initial.w → Along block l.initial.s (4 * l.i) l.s l.w)
+abbrev pub invariant-loop-t : goal.invariant-loop-t
+invariant-loop-t l =
+    (l.t ≤ 48) × (l.t % 4 ≡ 0)
+    × ((block : List ℕ) → Along block l.initial.s 0 l.initial.s l.initial.w → Along block l.initial.s l.t l.s l.w)
+
+abbrev pub decreases-loop-t : goal.decreases-loop-t
+decreases-loop-t l = 48 - l.t

@@ -22,6 +22,6 @@ returns-else-part-room c = λ m fed.
     c.split_at.ensures.by_index.0 c.laid-full.ensures fed.cut in
     let on = rw (← c.compress.ensures) at up in
     record {
-      cut = rw (kept_front _ _ _ c.laid-else-part-room.ensures) (cut_join on c.absorb.ensures.cut);
+      cut = rw (kept_front _ _ _ c.laid-else-part-room.ensures) (cut_join on c.absorb.ensures);
       counted = counted_more m part _ fed.counted;
     }
