@@ -1,5 +1,5 @@
 -- What a replica makes of bytes that are to be a letter.
-use Rattle.std.specs.Prelude.{◌≡◌, ℕ, cond, List, [], ◌∷◌, map, length, Some, None, vec_items, Option, ◌==◌}
+use Rattle.std.specs.Prelude.{◌≡◌, ℕ, Bool, true, false, cond, List, [], ◌∷◌, map, length, Some, None, vec_items, Option, ◌==◌}
 use Rattle.bookings.specs.Plain.{PlainMark, plain_mark}
 use Rattle.bookings.specs.Refusals.{number_of}
 use Rattle.journal.specs.History.{Kept, state_in}
@@ -39,13 +39,21 @@ outcomes_of (w ∷ ws) k = outcome_of w (refusal_of w (state_in k)) ∷ outcomes
 abbrev pub take_bytes : List ℕ → Kept → Kept
 take_bytes bs k = items_taken (items_of (read_letter bs)) k
 
--- what is told of a letter: how many entries were kept out, or that all of it was, and what came of the others
-abbrev pub kept_out : Heard → Option ℕ
-kept_out damaged = None
-kept_out (heard place cs ws out) = Some out
+-- what is told of a letter: whether it was kept out whole, how many entries were kept out, and what came of the others
+abbrev pub is_damaged : Heard → Bool
+is_damaged damaged = true
+is_damaged (heard place cs ws out) = false
+
+abbrev pub kept_out : Heard → ℕ
+kept_out damaged = 0
+kept_out (heard place cs ws out) = out
+
+-- how many were kept out, or that all was
+abbrev pub told_out : Heard → Option ℕ
+told_out h = cond (is_damaged h) None (Some (kept_out h))
 
 abbrev pub Reports : Report → Heard → Kept → Type 0
-Reports p h k = (p.rejected ≡ kept_out h) × (map plain_outcome (vec_items p.outcomes) ≡ outcomes_of (items_of h) k)
+Reports p h k = (p.rejected ≡ told_out h) × (map plain_outcome (vec_items p.outcomes) ≡ outcomes_of (items_of h) k)
 
 -- the letter that a replica writes for one who says to have so many committed entries and these stamps
 abbrev pub letter_for : ℕ → List ℕ → State → PlainLetter

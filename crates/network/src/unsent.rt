@@ -1,9 +1,8 @@
 // Why a letter was not written.
 ghost use Rattle.std.specs.Prelude.{◌≡◌};
-ghost use Rattle.network.specs.declared.unsent.Unsent.TheVariants.{Failed, NoRoom};
+ghost use Rattle.network.specs.declared.unsent.Unsent.TheVariants.{Failed};
 
 use journal::fault::Fault;
-use letters::unwritten::Unwritten;
 use thiserror::Error;
 
 #[derive(Clone, Copy, Debug, Error)]
@@ -19,14 +18,5 @@ impl From<Fault> for Unsent {
 
     fn from(why: Fault) -> Unsent {
         Unsent::Failed(why)
-    }
-}
-
-// A parcel never has too many entries for a letter.
-impl From<Unwritten> for Unsent {
-    ghost from_gives = { λ _ e. e ≡ NoRoom };
-
-    fn from(_why: Unwritten) -> Unsent {
-        Unsent::NoRoom
     }
 }

@@ -45,6 +45,9 @@ pub fn letter_for<J: Journal + Drop>(
     };
     replica.hand_on(has, parcel);
     let place = place_from(has.committed);
-    write_letter(place, parcel.committed(), parcel.tentative(), out)?;
+    // A parcel never has too many entries for a letter, so there is no room.
+    let Ok(()) = write_letter(place, parcel.committed(), parcel.tentative(), out) else {
+        return Err(Unsent::NoRoom);
+    };
     Ok(())
 }

@@ -4,7 +4,7 @@ use Rattle.letters.proofs.Few.{heard-few}
 use Rattle.letters.specs.Items.{items_of}
 use Rattle.letters.specs.Letters.{Heard}
 use Rattle.network.specs.Items.{items_taken}
-use Rattle.network.specs.Taking.{plain_outcome, kept_out, outcomes_of}
+use Rattle.network.specs.Taking.{plain_outcome, told_out, outcomes_of}
 use Rattle.network.proofs.takes.take.Goals as goal
 
 pub take_all-requires : goal.take_all-requires
@@ -22,4 +22,4 @@ returns-in_default-clause-kept g c =
 pub returns-in_default-clause-answer : goal.returns-in_default-clause-answer
 returns-in_default-clause-answer g c = λ k in_step.
     let none = sym c.in_default.ensures.1 in
-    (ap kept_out none, ap (map plain_outcome) c.clear.ensures.items ∙ ap (λ h. outcomes_of (items_of h) k) none)
+    (ap told_out none, ap (map plain_outcome) c.clear.ensures.items ∙ ap (λ h. outcomes_of (items_of h) k) none)

@@ -22,18 +22,18 @@ loop-item-init g c = (
 
 pub loop-item-preserved : goal.loop-item-preserved
 loop-item-preserved g c = (
-  λ k in_step. midway_more _ _ _ _ _ _ _ (plain_item c.in-Some.item) k (c.loop-item.invariant.0 k in_step) c.in-Some.ensures.next c.in_ok-outcome.ensures.kept
+  λ k in_step. midway_more _ _ _ _ _ _ _ (plain_item c.in-Some.item) k (c.loop-item.invariant.0 k in_step) c.in-Some.ensures.steps c.in_ok-outcome.ensures.kept
       (λ m kept. ap (map plain_outcome) c.push_reserved.ensures.items ∙ map-append plain_outcome (vec_items c.loop-item.outcomes) (c.in_ok-outcome.outcome ∷ [])
       ∙ ap (λ o. map plain_outcome (vec_items c.loop-item.outcomes) ++ o ∷ []) (c.in_ok-outcome.ensures.answer ∙ ap (λ s. outcome_of (plain_item c.in-Some.item) (refusal_of (plain_item c.in-Some.item) s)) kept.state)),
   omega (arith, c.in_ok-outcome.ensures.room, c.loop-item.invariant.1),
-  omega (arith, c.push_reserved.ensures.len, c.push_reserved.ensures.capacity, c.loop-item.invariant.2, ap length c.in-Some.ensures.next),
+  omega (arith, c.push_reserved.ensures.len, c.push_reserved.ensures.capacity, c.loop-item.invariant.2, ap length c.in-Some.ensures.steps),
   c.push_reserved.ensures.capacity ∙ c.loop-item.invariant.3,
 )
 
 pub returns : goal.returns
 returns g c = record {
-  kept = λ k in_step. midway_taken _ _ _ _ k (c.loop-item.invariant.0 k in_step) c.in-None.ensures.next.0;
-  answer = λ k in_step. midway_told _ _ _ _ k (c.loop-item.invariant.0 k in_step) c.in-None.ensures.next.0;
+  kept = λ k in_step. midway_taken _ _ _ _ k (c.loop-item.invariant.0 k in_step) c.in-None.ensures.steps.0;
+  answer = λ k in_step. midway_told _ _ _ _ k (c.loop-item.invariant.0 k in_step) c.in-None.ensures.steps.0;
   room = c.loop-item.invariant.1;
   sure = λ k in_step roomy. refl;
   capacity = c.loop-item.invariant.3;

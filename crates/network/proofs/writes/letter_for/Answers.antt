@@ -21,11 +21,6 @@ use Rattle.network.proofs.writes.letter_for.Given.{Over}
 use Rattle.network.proofs.writes.letter_for.Goals as goal
 use Rattle.network.proofs.writes.letter_for.Goals.{After-write_letter}
 
--- what holds where there is no room holds of a result that says so
-unroomy : {A : Type 0} (r : Result A Unsent) (N : A → Type 0) (P : Unsent → Type 0) → IsErrAnd r (λ e. e ≡ NoRoom) → P NoRoom → MatchResult r N P
-unroomy (Ok x) N P is holds = absurd is
-unroomy (Err e) N P is holds = subst P (sym is) holds
-
 module _ (g : Over) (c : After-write_letter g) where
   abbrev was : State
   was = state_of c.args.keeper.now.replica
@@ -53,20 +48,19 @@ module _ (g : Over) (c : After-write_letter g) where
 pub returns-clause-written : goal.returns-clause-written
 returns-clause-written g c =
     let at = (goal.at.returns-clause-written g c).After-write_letter in
-    subst (λ (l : PlainLetter). Written c.args.out.now c.write_letter.new.out (encode_letter l)) (letter g at) c.in_ok-write_letter.ensures.written
+    subst (λ (l : PlainLetter). Written c.args.out.now c.write_letter.new.out (encode_letter l)) (letter g at) c.in-Ok.ensures.written
 
 pub returns-clause-lawful : goal.returns-clause-lawful
 returns-clause-lawful g c =
     let at = (goal.at.returns-clause-lawful g c).After-write_letter in
-    subst LetterOk (letter g at) c.in_ok-write_letter.ensures.lawful
+    subst LetterOk (letter g at) c.in-Ok.ensures.lawful
 
-pub returns-in_err-write_letter-clause-kept : goal.returns-in_err-write_letter-clause-kept
-returns-in_err-write_letter-clause-kept g c =
-    let at = (goal.at.returns-in_err-write_letter-clause-kept g c).After-write_letter in
-    unroomy c.from_residual-in_err-write_letter.result _ _ c.from_residual-in_err-write_letter.ensures.1
-    (λ room. false≢true (c.in_err-write_letter.ensures.enough room (fits g at)))
+pub returns-in_default-write_letter-clause-kept : goal.returns-in_default-write_letter-clause-kept
+returns-in_default-write_letter-clause-kept g c = λ room.
+    let at = (goal.at.returns-in_default-write_letter-clause-kept g c).After-write_letter in
+    false≢true (c.in_default-write_letter.ensures.enough room (fits g at))
 
-pub returns-in_err-write_letter-clause-sure : goal.returns-in_err-write_letter-clause-sure
-returns-in_err-write_letter-clause-sure g c = λ k in_step roomy room.
-    let at = (goal.at.returns-in_err-write_letter-clause-sure g c).After-write_letter in
-    absurd (false≢true (c.in_err-write_letter.ensures.enough room (fits g at)))
+pub returns-in_default-write_letter-clause-sure : goal.returns-in_default-write_letter-clause-sure
+returns-in_default-write_letter-clause-sure g c = λ k in_step roomy room.
+    let at = (goal.at.returns-in_default-write_letter-clause-sure g c).After-write_letter in
+    absurd (false≢true (c.in_default-write_letter.ensures.enough room (fits g at)))
