@@ -1,14 +1,20 @@
 -- What is left at each place where some numbers of a list are replaced, and how that is taken back.
-use Rattle.std.proofs.Common.{◌≡◌, ℕ, zero, suc, ◌+◌, ◌-◌, ◌<◌, ◌≤◌, max, true, false, ◌≢◌, ◌⊎◌, List, ◌++◌, length, get_or, take, drop, sym, refl, ap, ◌∙◌, inl, inr, ⊎_elim, arith, length-drop, length-set, length-take-le}
-use borrow.Rule.Slice.PartMut.{mid_of, put_mid, same_len_mid}
-use Rattle.std.proofs.Math.ListN.{get_or-append}
-use Rattle.std.proofs.Math.Seq.{get_or-append_right}
-use Rattle.std.proofs.lemmas.Grind.{same_number_lists}
-use Rattle.std.proofs.lemmas.List.{get_or-set_same, get_or-set_other, get_or-take, get_or-drop, same_lists, get_or_default}
+use Rattle.std.proofs.Common.{◌≡◌, ℕ, zero, suc, ◌+◌, ◌-◌, ◌<◌, ◌≤◌, max, true, false, ◌≢◌, ◌⊎◌, List, [], ◌∷◌, ◌++◌, length, get_or, take, drop, set, sym, refl, ap, ◌∙◌, subst, inl, inr, ⊎_elim, add-one, append_assoc, arith, length-drop, length-set, length-take-le, take_all}
+use borrow.Rule.Slice.PartMut.{mid_of, put_mid}
+use Rattle.std.proofs.Math.Seq.{drop-cons}
+use Rattle.std.proofs.lemmas.List.{get_or-set_same, get_or-set_other, get_or-take, get_or-drop, set-append_right, take-append-drop, take_more, same_lists, get_or_default}
 use Rattle.std.proofs.lemmas.Bool.{cases_lt, cases_eq, le-leb, lt-leb, lt-ltb, le-ltb}
 use Rattle.bookings.specs.Nights.{first, inside, over, claim, release}
 use Rattle.bookings.specs.Plain.{PlainStay, PlainChoice}
 use Rattle.bookings.specs.Ranges.{StayOk}
+
+pub over_more : (f : ℕ → ℕ → ℕ) (xs : List ℕ) (s n : ℕ) → over f xs s (n + 1) ≡ set (over f xs s n) (s + n) (f (s + n) (get_or (over f xs s n) (s + n) 0))
+over_more f xs s n = rw add-one refl
+
+-- the same, at what has the first of the numbers replaced
+pub over_step :
+    (f : ℕ → ℕ → ℕ) (ys xs : List ℕ) (s n v : ℕ) → ys ≡ over f xs s n → v ≡ f (s + n) (get_or ys (s + n) 0) → set ys (s + n) v ≡ over f xs s (n + 1)
+over_step f ys xs s n v is v-is = rw (v-is, is, over_more f xs s n) refl
 
 pub length_over : (f : ℕ → ℕ → ℕ) (xs : List ℕ) (s n : ℕ) → length (over f xs s n) ≡ length xs
 length_over f xs s zero = refl
@@ -76,31 +82,48 @@ pub part_next :
     (g : ℕ → ℕ → ℕ) (xs zs : List ℕ) (s k m : ℕ) → zs ≡ over g (mid_of s k xs) 0 m → m < k → get_or zs m 0 ≡ get_or xs (s + m) 0
 part_next g xs zs s k m is h = rw is (over_past g (mid_of s k xs) 0 m m (omega arith)) ∙ get_or-take k (drop s xs) m 0 h ∙ get_or-drop s xs m 0
 
+-- a step of the putting back: one more of the numbers that are put there
+put_next :
+    (xs zs : List ℕ) (s n : ℕ) → n < length zs → s + n < length xs
+    → put_mid s (n + 1) xs (take (n + 1) zs) ≡ set (put_mid s n xs (take n zs)) (s + n) (get_or zs n 0)
+put_next xs zs s n more within =
+    let front : length (take s xs) ≡ s = length-take-le s xs (omega arith) in
+    let part : length (take n zs) ≡ n = length-take-le n zs (omega arith) in
+    let v : ℕ = get_or zs n 0 in
+    let there : s + n - s ≡ n = omega arith in
+    let here : n - n ≡ 0 = omega arith in
+    let behind : drop n (drop s xs) ≡ get_or (drop s xs) n 0 ∷ drop (n + 1) (drop s xs) =
+        rw add-one (drop-cons (drop s xs) n 0 (simp length-drop (omega arith)))
+    in
+    sym
+    (set-append_right (take s xs) (take n zs ++ drop n (drop s xs)) s (s + n) v front (omega arith)
+    ∙ ap (λ i. take s xs ++ set (take n zs ++ drop n (drop s xs)) i v) there
+    ∙ ap (λ l. take s xs ++ l)
+    (set-append_right (take n zs) (drop n (drop s xs)) n n v part (omega arith)
+    ∙ ap (λ i. take n zs ++ set (drop n (drop s xs)) i v) here
+    ∙ ap (λ l. take n zs ++ set l 0 v) behind
+    ∙ sym (append_assoc (take n zs) (v ∷ []) (drop (n + 1) (drop s xs)))
+    ∙ ap (λ l. l ++ drop (n + 1) (drop s xs)) (sym (take_more zs n 0 more))))
+
+-- the first of the numbers that are put there, by a step of `over` for each
+put_first :
+    (f : ℕ → ℕ → ℕ) (xs zs : List ℕ) (s n m : ℕ) → s + n ≤ length xs → length zs ≡ n
+    → ((j : ℕ) → j < n → get_or zs j 0 ≡ f (s + j) (get_or xs (s + j) 0))
+    → m ≤ n → put_mid s m xs (take m zs) ≡ over f xs s m
+put_first f xs zs s n zero fits many each few = take-append-drop s xs
+put_first f xs zs s n (suc m) fits many each few =
+    let so_far = put_first f xs zs s n m fits many each (omega arith) in
+    subst (λ i. put_mid s i xs (take i zs) ≡ over f xs s i) (add-one m)
+    (put_next xs zs s m (omega arith) (omega arith)
+    ∙ over_step f (put_mid s m xs (take m zs)) xs s m (get_or zs m 0) so_far
+    (each m (omega arith) ∙ sym (ap (f (s + m)) (ap (λ l. get_or l (s + m) 0) so_far ∙ over_past f xs s m (s + m) (omega arith)))))
+
 put_over :
     (f : ℕ → ℕ → ℕ) (xs zs : List ℕ) (s n : ℕ) → s + n ≤ length xs → length zs ≡ n
     → ((j : ℕ) → j < n → get_or zs j 0 ≡ f (s + j) (get_or xs (s + j) 0))
     → put_mid s n xs zs ≡ over f xs s n
 put_over f xs zs s n fits many each =
-    let front : length (take s xs) ≡ s = length-take-le s xs (omega arith) in
-    let part : length zs ≡ length (mid_of s n xs) = many ∙ sym (length-take-le n (drop s xs) (simp length-drop (omega arith))) in
-    same_number_lists _ _ (same_len_mid s n xs zs part ∙ sym (length_over f xs s n))
-    (λ k h.
-    ⊎_elim
-    (λ low. get_or-append (take s xs) (zs ++ drop n (drop s xs)) 0 k (omega arith) ∙ get_or-take s xs k 0 low ∙ sym (over_below f xs s n k low))
-    (λ from.
-    let j : ℕ = k - s in
-    let at : s + j ≡ k = omega arith in
-    let behind : get_or (put_mid s n xs zs) k 0 ≡ get_or (zs ++ drop n (drop s xs)) j 0 = get_or-append_right (take s xs) (zs ++ drop n (drop s xs)) k 0 (omega arith) ∙ ap (λ i. get_or (zs ++ drop n (drop s xs)) (k - i) 0) front in
-    behind
-    ∙ ⊎_elim
-    (λ upto.
-    get_or-append zs (drop n (drop s xs)) 0 j (omega arith) ∙ each j (omega arith) ∙ ap (λ i. f i (get_or xs i 0)) at
-    ∙ sym (over-inside f xs s n k fits from upto))
-    (λ past.
-    get_or-append_right zs (drop n (drop s xs)) j 0 (omega arith) ∙ get_or-drop n (drop s xs) (j - length zs) 0 ∙ get_or-drop s xs (n + (j - length zs)) 0
-    ∙ ap (λ i. get_or xs i 0) (omega arith) ∙ sym (over_past f xs s n k past))
-    (cases_lt k (s + n)))
-    (cases_lt k s))
+    ap (put_mid s n xs) (sym (take_all n zs (omega arith))) ∙ put_first f xs zs s n n fits many each (omega arith)
 
 pub part_over :
     (f g : ℕ → ℕ → ℕ) (xs zs : List ℕ) (s k n m : ℕ) → k ≡ n → m ≡ n → s + n ≤ length xs → zs ≡ over g (mid_of s k xs) 0 m

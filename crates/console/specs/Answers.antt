@@ -4,7 +4,7 @@ use Rattle.bookings.specs.declared.entry.Kind.{Kind}
 use Rattle.bookings.specs.declared.entry.Kind.TheVariants as entries
 use Rattle.bookings.specs.Refusals.{number_of}
 use Rattle.bookings.specs.Texts.{mark_text, reason_text}
-use Rattle.entry_log.specs.Texts.{stamps_text}
+use Rattle.entry_log.specs.Texts.{vector_text}
 use Rattle.console.specs.declared.answer.Answer.{Answer}
 use Rattle.console.specs.declared.answer.Answer.TheVariants as answers
 use Rattle.console.specs.declared.answer.Got.{Got}
@@ -68,12 +68,12 @@ answer_text (answers.Made m) = codes "made " ++ mark_text m
 answer_text (answers.Refused why) = codes "refused " ++ (decimal (number_of why) ++ (codes ": " ++ reason_text why))
 answer_text (answers.Inked m p) = codes "inked " ++ (mark_text m ++ (codes " at " ++ decimal p))
 answer_text answers.NothingTentative = codes "nothing in pencil"
-answer_text (answers.Have c v) = codes "have " ++ (decimal c ++ (codes " " ++ stamps_text v.stamps))
+answer_text (answers.Have c v) = codes "have " ++ (decimal c ++ (codes " " ++ vector_text v.stamps))
 answer_text (answers.Night h n b k) =
     codes "hut " ++ (decimal h ++ (codes " night " ++ (decimal n ++ (codes ": " ++ (decimal b ++ (codes " beds, " ++ (decimal k ++ codes " booked")))))))
 answer_text answers.EndOfBook = codes "end of book"
 answer_text (answers.Logged p m t k) = decimal p ++ (codes ": " ++ (mark_text m ++ (codes " " ++ (standing_text t ++ (codes " " ++ kind_text k)))))
 answer_text answers.EndOfLog = codes "end of line"
 answer_text (answers.Got m t g) = mark_text m ++ (codes " " ++ (standing_text t ++ (codes ": " ++ got_text g)))
-answer_text (answers.Served v) = codes "served " ++ stamps_text v.stamps
+answer_text (answers.Served v) = codes "served " ++ vector_text v.stamps
 answer_text (answers.Error e) = codes "error: " ++ expected_text e

@@ -8,7 +8,7 @@ use Rattle.console.specs.declared.slip.SlipExpected.TheVariants as expected
 use Rattle.console.specs.declared.slip.SlipVerb.{SlipVerb}
 use Rattle.console.specs.declared.slip.SlipVerb.TheVariants.{Slip, May, Add, Help}
 use Rattle.console.specs.Answers.{answer_text}
-use Rattle.entry_log.specs.Texts.{stamps_text}
+use Rattle.entry_log.specs.Texts.{vector_text}
 
 -- a verb with what stands behind it
 abbrev pub slip_form_text : SlipVerb → List ℕ
@@ -23,7 +23,7 @@ slip_expected_text (expected.Form v) = codes "expected: " ++ slip_form_text v
 
 -- a refusal reads as everywhere
 abbrev pub slip_answer_text : SlipAnswer → List ℕ
-slip_answer_text (answers.Slip v) = codes "slip " ++ stamps_text v.stamps
+slip_answer_text (answers.Slip v) = codes "slip " ++ vector_text v.stamps
 slip_answer_text answers.Yes = codes "yes"
 slip_answer_text (answers.Refused why) = answer_text (Refused why)
 slip_answer_text answers.Usage = codes "slip\nmay S0 .. S15\nadd S0 .. S15\nhelp"

@@ -6,6 +6,6 @@ unfoldable pub stamps_behind : List ℕ → List ℕ
 stamps_behind [] = []
 stamps_behind (n ∷ ns) = 32 ∷ (decimal n ++ stamps_behind ns)
 
-abbrev pub stamps_text : List ℕ → List ℕ
-stamps_text [] = []
-stamps_text (n ∷ ns) = decimal n ++ stamps_behind ns
+abbrev pub vector_text : List ℕ → List ℕ
+vector_text [] = []
+vector_text (n ∷ ns) = decimal n ++ stamps_behind ns

@@ -83,13 +83,8 @@ impl Supply {
             (λ s. plain_supply s ≡ record { stay = plain_stay stay; beds = beds })
             (λ e. (number_of e ≡ 2) × (SupplyOk (record { stay = plain_stay stay; beds = beds }) → ⊥)) }
     {
-        if beds > 255 {
-            return Err(Refusal::OutOfRange);
-        }
-        Ok(Supply {
-            stay,
-            beds: beds as u8,
-        })
+        let beds = u8::try_from(beds).map_err(|_| Refusal::OutOfRange)?;
+        Ok(Supply { stay, beds })
     }
 }
 
