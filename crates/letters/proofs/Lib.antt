@@ -4,7 +4,6 @@ pub mod Codes
 mod Counts
 pub mod Exact
 pub mod Few
-mod Going
 mod HeardWhole
 mod Lawful
 pub mod Lettering

@@ -34,7 +34,7 @@ looked_stopped bs r s first n place out p m x one two few end some first-is p-is
 pub looked_through :
     (bs r s first : List ℕ) (n place out p m : ℕ) (t : List ℕ) → read_two bs ≡ got n r → read_four r ≡ got place s → n ≤ 1024
     → end_of (read_row reads n s) ≡ cond (eqb out 0) (through t) (halted out) → out ≤ 0 → first ≡ s → p ≡ place → m ≡ n
-    → read_body bs ≡ number (read_two t) (read_tentative n p (front reads m first))
+    → read_body bs ≡ number (read_two t) (read_tentative m p (front reads m first))
 looked_through bs r s first n place out p m t one two few end none first-is p-is m-is =
     let on : eqb out 0 ≡ true = eq-eqb out 0 (omega (arith, none)) in
     to_committed bs r s n place one two few
@@ -42,14 +42,14 @@ looked_through bs r s first n place out p m t one two few end none first-is p-is
     ∙ rw (on, first-is, p-is, m-is) refl
 
 pub looked_on :
-    (bs r second t : List ℕ) (n place m out : ℕ) (cs : List PlainEntry) → read_two bs ≡ got m r → n + m ≤ 1024
-    → end_of (read_row read_waiting m r) ≡ cond (eqb out 0) (through t) (halted out) → second ≡ r → (eqb out 0 ≡ true → length t ≡ 0)
-    → number (read_two bs) (read_tentative n place cs) ≡ heard place cs (front read_waiting m second) out
-looked_on bs r second t n place m out cs one few end second_is behind =
+    (bs r second t : List ℕ) (n place m k out : ℕ) (cs : List PlainEntry) → read_two bs ≡ got m r → n + m ≤ 1024
+    → end_of (read_row read_waiting m r) ≡ cond (eqb out 0) (through t) (halted out) → second ≡ r → k ≡ m → (eqb out 0 ≡ true → length t ≡ 0)
+    → number (read_two bs) (read_tentative n place cs) ≡ heard place cs (front read_waiting k second) out
+looked_on bs r second t n place m k out cs one few end second_is k-is behind =
     ap (λ a. number a (read_tentative n place cs)) one
     ∙ ap (λ b. cond b damaged (from_tentative place cs (read_row read_waiting m r))) (le-ltb 1024 (n + m) few)
     ∙ ap (from_tentative place cs) (ended read_waiting m out r (through t) end)
-    ∙ rw second_is (at-end (eqb out 0) refl)
+    ∙ rw (second_is, k-is) (at-end (eqb out 0) refl)
   where
     at-end : (b : Bool) → eqb out 0 ≡ b → from_tentative place cs (row_from (front read_waiting m r) (cond b (through t) (halted out))) ≡ heard place cs (front read_waiting m r) out
     at-end true e = rw (eq-eqb (length t) 0 (behind e)) (ap (heard place cs (front read_waiting m r)) (sym (eqb-true out 0 e)))

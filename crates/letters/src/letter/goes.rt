@@ -1,16 +1,32 @@
 // Going over the entries of a letter.
-ghost use Rattle.std.specs.Prelude.{◌≡◌, [], ◌∷◌, MatchOption};
+ghost use Rattle.std.specs.Prelude.{◌≡◌, ◌+◌, [], ◌∷◌, MatchOption};
 ghost use Rattle.std.specs.Iterator.{YieldsFirstBy, item_count};
-ghost use Rattle.letters.specs.Items.{committed_left, tentative_left, left, plain_item};
+ghost use Rattle.letters.specs.Items.{unread, committed_left, tentative_left, left, plain_item};
 
-use super::{Item, Letter};
+use super::{Item, Letter, Unread};
+use crate::coded::Coded;
+
+impl<'a> Unread<'a> {
+    // The next value. Where one cannot be read, which was found when the letter was opened, none is left.
+    fn next<V: Coded>(&mut self) -> Option<V>
+        ensures next { MatchOption result
+            ((unread V.reading self.old ≡ []) × (self.new.count ≡ 0))
+            (λ v. (unread V.reading self.old ≡ V.plain v ∷ unread V.reading self.new) × (self.old.count ≡ self.new.count + 1)) }
+    {
+        let left = self.count.checked_sub(1)?;
+        self.count = 0;
+        let value = V::read(&mut self.reader).ok()?;
+        self.count = left;
+        Some(value)
+    }
+}
 
 impl<'a> Letter<'a> {
     // How many entries are kept out: the first that is out of range, and those that the letter says come after it.
     pub fn kept_out(&self) -> usize
         ensures { result ≡ self.now.out }
     {
-        self.out as usize
+        usize::from(self.out)
     }
 
     fn next_committed(&mut self) -> Option<Item>
@@ -20,20 +36,10 @@ impl<'a> Letter<'a> {
         ensures others { tentative_left self.new ≡ tentative_left self.old }
         ensures out { self.new.out ≡ self.old.out }
     {
-        if self.given >= self.committed {
-            return None;
-        }
-        match self.first.entry() {
-            Ok(entry) => {
-                let place = self.place as u64 + self.given as u64;
-                self.given += 1;
-                Some(Item::Committed { place, entry })
-            }
-            Err(_) => {
-                self.given = self.committed;
-                None
-            }
-        }
+        let entry = self.committed.next()?;
+        let place = self.place;
+        self.place += 1;
+        Some(Item::Committed { place, entry })
     }
 
     fn next_tentative(&mut self) -> Option<Item>
@@ -43,19 +49,7 @@ impl<'a> Letter<'a> {
         ensures others { committed_left self.new ≡ committed_left self.old }
         ensures out { self.new.out ≡ self.old.out }
     {
-        if self.tentative == 0 {
-            return None;
-        }
-        match self.second.waiting() {
-            Ok(waiting) => {
-                self.tentative -= 1;
-                Some(Item::Tentative(waiting))
-            }
-            Err(_) => {
-                self.tentative = 0;
-                None
-            }
-        }
+        self.tentative.next().map(Item::Tentative)
     }
 
     // The next entry of the letter, in its order.
@@ -65,6 +59,7 @@ impl<'a> Letter<'a> {
             (λ i. left self.old ≡ plain_item i ∷ left self.new) }
         ensures out { self.new.out ≡ self.old.out }
     {
+        // `or_else` was tried: where its closure is not called, the proof knows nothing of the `self` that it borrowed.
         match self.next_committed() {
             Some(item) => Some(item),
             None => self.next_tentative(),

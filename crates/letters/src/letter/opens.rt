@@ -4,7 +4,7 @@ ghost use Rattle.bookings.specs.Refusals.{number_of};
 ghost use Rattle.letters.specs.Items.{heard_of, heard_on};
 ghost use Rattle.letters.specs.Letters.{damaged, read_body, read_letter, signed};
 
-use super::{LETTER, Letter};
+use super::{LETTER, Letter, Unread};
 use crate::reader::Reader;
 use bookings::entry::Entry;
 use bookings::refusal::Refusal;
@@ -18,6 +18,17 @@ fn is_signed(bytes: &[u8]) -> bool
     let end = bytes.len() - 32;
     let sum = digest::sha256(&bytes[0..end]);
     &sum[0..32] == &bytes[end..]
+}
+
+impl<'a> Unread<'a> {
+    // So many values, from where another reader stands.
+    fn new(count: u16, at: &Reader<'a>) -> Unread<'a>
+        ensures count { result.count ≡ count }
+        ensures rest { result.reader.rest.now ≡ at.now.rest.now }
+    {
+        let reader = Reader::new(at.rest());
+        Unread { count, reader }
+    }
 }
 
 impl<'a> Letter<'a> {
@@ -39,20 +50,17 @@ impl<'a> Letter<'a> {
             (λ l. read_body reader.entry.rest.now ≡ heard_of l)
             (λ e. (number_of e ≡ 1) × (read_body reader.entry.rest.now ≡ damaged)) }
     {
-        let committed = reader.two().map_err(|_| Refusal::Damaged)?;
+        let count = reader.two().map_err(|_| Refusal::Damaged)?;
         let place = reader.four().map_err(|_| Refusal::Damaged)?;
-        if committed > LETTER {
+        if count > LETTER {
             return Err(Refusal::Damaged);
         }
-        let first = Reader::new(reader.rest());
-        let out = reader.pass::<Entry>(committed)?;
+        let committed = Unread::new(count, &reader);
+        let out = reader.pass::<Entry>(count)?;
         let letter = Letter {
-            place,
+            place: u64::from(place),
             committed,
-            given: 0,
-            first,
-            tentative: 0,
-            second: Reader::new(reader.rest()),
+            tentative: Unread::new(0, &reader),
             out,
         };
         if out > 0 {
@@ -67,20 +75,20 @@ impl<'a> Letter<'a> {
             (λ l. heard_on self.entry reader.entry.rest.now ≡ heard_of l)
             (λ e. (number_of e ≡ 1) × (heard_on self.entry reader.entry.rest.now ≡ damaged)) }
     {
-        let tentative = reader.two().map_err(|_| Refusal::Damaged)?;
-        if self.committed as u32 + tentative as u32 > LETTER as u32 {
+        let count = reader.two().map_err(|_| Refusal::Damaged)?;
+        if u32::from(self.committed.count) + u32::from(count) > u32::from(LETTER) {
             return Err(Refusal::Damaged);
         }
-        let second = Reader::new(reader.rest());
-        let out = reader.pass::<Waiting>(tentative)?;
+        let tentative = Unread::new(count, &reader);
+        let out = reader.pass::<Waiting>(count)?;
         if out == 0 && reader.rest().len() > 0 {
             return Err(Refusal::Damaged);
         }
         Ok(Letter {
+            place: self.place,
+            committed: self.committed,
             tentative,
-            second,
             out,
-            ..self
         })
     }
 }

@@ -48,6 +48,7 @@ impl<'a> Reader<'a> {
         Ok(bytes[0])
     }
 
+    // Two bytes, and below four: a line each over `take`, since no trait says that a number is made of bytes.
     pub fn two(&mut self) -> Result<u16, Wrong>
         ensures { MatchResult result
             (λ n. read_two self.old.rest.now ≡ got n self.new.rest.now)
@@ -69,6 +70,7 @@ impl<'a> Reader<'a> {
             (λ m. read_mark self.old.rest.now ≡ got (plain_mark m) self.new.rest.now)
             (λ e. read_mark self.old.rest.now ≡ wrong e) }
     {
+        // Not by `Mark::new`, and below not by `Stay::new` and `Choice::new`: these take numbers of any size, and a letter's are bytes already.
         let [a, b, c, d, hut] = self.take::<5>()?;
         let stamp = u32::from_be_bytes([a, b, c, d]);
         if stamp < 1 || hut >= 16 {
@@ -85,7 +87,7 @@ impl<'a> Reader<'a> {
     {
         let [hut, high, low, nights, beds] = self.take::<5>()?;
         let night = u16::from_be_bytes([high, low]);
-        if hut >= 16 || nights < 1 || nights > 14 || night as u32 + nights as u32 > 366 {
+        if hut >= 16 || nights < 1 || nights > 14 || u32::from(night) + u32::from(nights) > 366 {
             return Err(Wrong::Out);
         }
         Ok((Stay { hut, night, nights }, beds))

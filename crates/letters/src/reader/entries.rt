@@ -19,7 +19,7 @@ impl<'a> Reader<'a> {
             return Err(Wrong::Out);
         }
         let mut all = Choices::none().all;
-        self.fill(&mut all[..count as usize])?;
+        self.fill(&mut all[..usize::from(count)])?;
         Ok(Choices { count, all })
     }
 
@@ -66,6 +66,7 @@ impl<'a> Reader<'a> {
             (λ v. read_kind self.old.rest.now ≡ got (plain_kind v) self.new.rest.now)
             (λ e. read_kind self.old.rest.now ≡ wrong e) }
     {
+        // The format's own bytes, which stand once here and once in `put_kind`: an enum of them would be matched a second time.
         match self.one()? {
             1 => self.book(),
             2 => self.cancel(),

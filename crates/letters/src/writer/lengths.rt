@@ -15,9 +15,9 @@ pub(crate) fn entry_size(entry: &Entry) -> usize
     ensures small { result ≤ 32 }
 {
     match &entry.kind {
-        Kind::Book { choices, .. } => 11 + 5 * choices.count as usize,
+        Kind::Book { choices, .. } => 11 + 5 * usize::from(choices.count),
         Kind::Cancel { .. } => 11,
-        Kind::Change { choices, .. } => 12 + 5 * choices.count as usize,
+        Kind::Change { choices, .. } => 12 + 5 * usize::from(choices.count),
         Kind::Beds { .. } => 11,
     }
 }

@@ -28,6 +28,7 @@ fn put_body(out: &mut Vec<u8>, place: u32, committed: &[Entry], tentative: &[Wai
     ensures written { Written out.old out.new (66 ∷ encode_body (plain_letter place committed.now tentative.now)) }
     ensures fits { LetterOk (plain_letter place committed.now tentative.now) }
 {
+    // There are at most 1,024 of each, so that `as` loses nothing, which the check proves.
     let [high, low] = (committed.len() as u16).to_be_bytes();
     let [a, b, c, d] = place.to_be_bytes();
     put(out, &[66, high, low, a, b, c, d]);
@@ -62,7 +63,7 @@ pub fn write_letter(
         ]) }
     ensures enough { vec_len out.old + 98345 ≤ vec_capacity out.old → many committed.now tentative.now ≤ 1024 → is_ok result ≡ true }
 {
-    let most = LETTER as usize;
+    let most = usize::from(LETTER);
     if committed.len() > most || tentative.len() > most - committed.len() {
         return Err(Unwritten::TooMany);
     }

@@ -7,38 +7,39 @@ use Rattle.letters.proofs.letter.Letter.look.Goals as goal
 
 pub returns-then-out-gt0 : goal.returns-then-out-gt0
 returns-then-out-gt0 c =
-    looked_stopped c.args.reader.rest.now c.two.new.self.rest.now c.four.new.self.rest.now c.new-first.result.rest.now
-    c.in_ok-committed.committed
+    rw c.new.ensures.count
+    (looked_stopped c.args.reader.rest.now c.two.new.self.rest.now c.four.new.self.rest.now c.new-committed.result.reader.rest.now
+    c.in_ok-count.count
     c.in_ok-place.place
     c.in_ok-out.out
-    (c.in_ok-place.place + 0)
-    (c.in_ok-committed.committed - 0)
+    c.from.result
+    c.new-committed.result.count
     _
     (search rules)
     (search rules)
-    c.if-committed-gt-LETTER.false
+    c.if-count-gt-LETTER.false
     c.in_ok-out.ensures
     c.if-out-gt0.true
-    (c.new-first.ensures ∙ c.rest.ensures)
-    (omega arith)
-    (omega arith)
+    c.new-committed.ensures.rest
+    (search rules)
+    c.new-committed.ensures.count)
 
 pub returns : goal.returns
 returns c =
     let e =
-    looked_through c.args.reader.rest.now c.two.new.self.rest.now c.four.new.self.rest.now c.new-first.result.rest.now
-    c.in_ok-committed.committed
+    looked_through c.args.reader.rest.now c.two.new.self.rest.now c.four.new.self.rest.now c.new-committed.result.reader.rest.now
+    c.in_ok-count.count
     c.in_ok-place.place
     c.in_ok-out.out
-    (c.in_ok-place.place + 0)
-    (c.in_ok-committed.committed - 0)
+    c.from.result
+    c.new-committed.result.count
     c.pass.new.self.rest.now
     (search rules)
     (search rules)
-    c.if-committed-gt-LETTER.false
+    c.if-count-gt-LETTER.false
     c.in_ok-out.ensures
     c.if-out-gt0.false
-    (c.new-first.ensures ∙ c.rest.ensures)
-    (omega arith)
-    (omega arith) in
+    c.new-committed.ensures.rest
+    (search rules)
+    c.new-committed.ensures.count in
     subst (λ (h : Heard). MatchResult c.look_on.result (λ l. h ≡ heard_of l) (λ e. (number_of e ≡ 1) × (h ≡ damaged))) (sym e) c.look_on.ensures

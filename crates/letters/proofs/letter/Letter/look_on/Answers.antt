@@ -1,7 +1,7 @@
 use Rattle.std.proofs.Common.{◌≡◌, ◌+◌, ◌-◌, true, eqb, length, ◌∙◌, rules}
 use Rattle.std.proofs.lemmas.Bool.{eqb-true}
 use Rattle.letters.specs.Format.{reads}
-use Rattle.letters.specs.Rows.{front}
+use Rattle.letters.specs.Items.{unread}
 use Rattle.letters.proofs.Looking.{looked_on}
 use Rattle.letters.proofs.letter.Letter.look_on.Goals.{else-out-eq0-via-then-out-eq0+else-rest-gt0, else-out-eq0-via-else-out-eq0}
 use Rattle.letters.proofs.letter.Letter.look_on.Goals as goal
@@ -16,12 +16,14 @@ returns c =
       | else-out-eq0-via-then-out-eq0+else-rest-gt0 w ↦ λ e. search rules
       | else-out-eq0-via-else-out-eq0 w ↦ λ e. absurd (w.if-out-eq0.false (eqb-true out 0 e))
     ] in
-    looked_on c.args.reader.rest.now c.two.new.self.rest.now c.new-second.result.rest.now t l.committed (l.place + l.given)
-    c.in_ok-tentative.tentative
+    looked_on c.args.reader.rest.now c.two.new.self.rest.now c.new-tentative.result.reader.rest.now t l.committed.count l.place
+    c.in_ok-count.count
+    c.new-tentative.result.count
     out
-    (front reads (l.committed - l.given) l.first.rest.now)
+    (unread reads l.committed)
     (search rules)
-    c.if-self-tentative.false
+    (search rules)
     c.in_ok-out.ensures
-    (c.new-second.ensures ∙ c.rest.ensures)
+    c.new-tentative.ensures.rest
+    c.new-tentative.ensures.count
     behind
