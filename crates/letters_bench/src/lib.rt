@@ -13,21 +13,22 @@ pub extern "C" fn letter_sum(bytes: &[u8]) -> u64 {
     let Ok(letter) = Letter::open(bytes) else {
         return 0;
     };
+    // No `From` goes from `usize` to `u64`; the check proves that nothing is lost.
     let kept_out = letter.kept_out() as u64;
     letter.fold(kept_out, |sum, item| sum.wrapping_add(weight(&item)))
 }
 
 fn weight(item: &Item) -> u64 {
     match item {
-        Item::Committed { place, entry } => place.wrapping_add(entry.mark.stamp as u64),
+        Item::Committed { place, entry } => place.wrapping_add(u64::from(entry.mark.stamp)),
         Item::Tentative(waiting) => {
             let stamps = waiting.stood.stamps();
-            waiting.entry.mark.stamp as u64 + stamps[0] as u64
+            u64::from(waiting.entry.mark.stamp) + u64::from(stamps[0])
         }
     }
 }
 
-// The entries of a letter, in memory of their own.
+// The entries of a letter, in memory of their own; none of one that is damaged.
 fn gathered(heap: Global, bytes: &[u8]) -> Result<(Vec<Entry>, Vec<Waiting>), AllocError> {
     let mut committed = Vec::with_capacity(heap, 1024)?;
     let mut tentative = Vec::with_capacity(heap, 1024)?;
@@ -36,18 +37,14 @@ fn gathered(heap: Global, bytes: &[u8]) -> Result<(Vec<Entry>, Vec<Waiting>), Al
     };
     for item in letter {
         match item {
-            Item::Committed { place: _, entry } => {
-                let _ = committed.push(entry);
-            }
-            Item::Tentative(waiting) => {
-                let _ = tentative.push(waiting);
-            }
+            Item::Committed { place: _, entry } => committed.push(entry)?,
+            Item::Tentative(waiting) => tentative.push(waiting)?,
         }
     }
     Ok((committed, tentative))
 }
 
-// Writes the entries of a letter into one buffer so many times: its length in the end; 0 if there is no memory.
+// Writes the entries of a letter into one buffer so many times: its length in the end; 0 if there is no memory, or if it cannot be written.
 #[unsafe(no_mangle)]
 pub extern "C" fn letter_written(heap: Global, bytes: &[u8], turns: u32) -> usize {
     let Ok((committed, tentative)) = gathered(heap, bytes) else {
@@ -58,7 +55,9 @@ pub extern "C" fn letter_written(heap: Global, bytes: &[u8], turns: u32) -> usiz
     };
     for _turn in 0..turns {
         out.clear();
-        let _ = write_letter(0, committed.as_slice(), tentative.as_slice(), &mut out);
+        let Ok(()) = write_letter(0, committed.as_slice(), tentative.as_slice(), &mut out) else {
+            return 0;
+        };
     }
     out.len()
 }
