@@ -93,7 +93,7 @@ put_next xs zs s n more within =
     let there : s + n - s ≡ n = omega arith in
     let here : n - n ≡ 0 = omega arith in
     let behind : drop n (drop s xs) ≡ get_or (drop s xs) n 0 ∷ drop (n + 1) (drop s xs) =
-        rw add-one (drop-cons (drop s xs) n 0 (simp length-drop (omega arith)))
+    rw add-one (drop-cons (drop s xs) n 0 (simp length-drop (omega arith)))
     in
     sym
     (set-append_right (take s xs) (take n zs ++ drop n (drop s xs)) s (s + n) v front (omega arith)

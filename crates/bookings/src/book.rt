@@ -14,6 +14,7 @@ mod steps;
 pub const CAPACITY: usize = 65536;
 
 // Beds and booked for each hut and night, and for each entry in the order of doing its mark and what came of it.
+// Lists side by side, since each is lent alone, and a mark is then looked for among 8 bytes each, and not among marks with outcomes.
 #[derive(Drop)]
 pub struct Book {
     beds: Vec<u32>,

@@ -12,6 +12,8 @@ use crate::nights::{claim_beds, release_beds, resize_beds};
 use crate::outcome::{Grant, Outcome};
 use crate::standing::find_standing;
 
+// The clauses on lengths, `Covered` and `Few` stand at each function: the slices are lent apart, and between two steps no struct of them would hold the last two.
+
 // Books the first choice that is free.
 fn grant_first(
     beds: &[u32],

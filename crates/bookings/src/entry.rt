@@ -33,7 +33,8 @@ pub struct Choice {
     ghost beds_ok: { (1 ≤ beds) × (beds ≤ 20) },
 }
 
-// Up to four choices, the one that is wanted most first: the first `count` of the array.
+// Up to four choices, the one that is wanted most first: the first `count` of the array, since an entry is copied, and takes no memory.
+// With no `Model`: its fields are public, and contracts say `listed` of it.
 #[derive(Clone, Copy)]
 pub struct Choices {
     pub count: u8,
@@ -42,7 +43,7 @@ pub struct Choices {
     ghost four: { length all ≡ 4 },
 }
 
-// How many beds a hut has on some nights.
+// How many beds a hut has on some nights. A type beside `Choice`, so that none passes for the other.
 #[derive(Clone, Copy, PartialEq, Eq)]
 pub struct Supply {
     pub stay: Stay,

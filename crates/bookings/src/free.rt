@@ -20,6 +20,7 @@ pub(crate) fn first_free(
     ensures { option_map plain_grant result ≡ first_free beds.now booked.now replaces 0 (plain_choices choices.now) }
 {
     let listed = choices.as_slice();
+    // A labelled loop: the project keeps this form, a loop over choices and nights that is left at the first that is free.
     'choices: for (i, choice) in listed.iter().enumerate() {
         let there = nights_of(beds, &choice.stay);
         let taken = nights_of(booked, &choice.stay);
@@ -29,6 +30,7 @@ pub(crate) fn first_free(
             }
         }
         return Some(Grant {
+            // There are four at most.
             number: i as u8,
             choice: *choice,
             replaces,

@@ -40,7 +40,7 @@ pub(crate) fn claim_beds(booked: &mut [u32], choice: &Choice)
     }
 }
 
-// Gives the beds of a choice back.
+// Gives the beds of a choice back. Beside `claim_beds`, since each requires another thing of the night's number, which a common function would say again.
 pub(crate) fn release_beds(booked: &mut [u32], choice: &Choice)
     requires long { length booked.old ≡ 5856 }
     requires held { (k : ℕ) → k < choice.now.stay.nights → choice.now.beds ≤ slice_index booked.old (first (plain_stay choice.now.stay) + k) }
@@ -64,6 +64,7 @@ pub(crate) fn resize_beds(beds: &mut [u32], booked: &[u32], supply: &Supply) -> 
     let mut were = [0u32; 14];
     were[..nights.len()].copy_from_slice(nights);
     let wanted = u32::from(supply.beds);
+    // By the index, since of what a `zip` on `iter_mut` writes nothing is known after the loop.
     for (n, night) in nights.iter_mut().enumerate() {
         *night = wanted.max(booked[n]);
     }

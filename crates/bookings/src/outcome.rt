@@ -25,7 +25,7 @@ pub enum Outcome {
     Changed(Grant, Mark),
     // A cancellation, with the place of the booking that it freed.
     Freed(Option<usize>),
-    // A change of beds, with how many beds there were on each of its nights.
+    // A change of beds, with how many beds there were on each of its nights: an outcome is copied and takes no memory, and the stay says how many count.
     Resized(Stay, [u32; 14]),
 }
 

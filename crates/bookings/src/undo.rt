@@ -8,6 +8,8 @@ ghost use Rattle.bookings.specs.Undone.{Rest, reinstated, taken_back};
 use crate::nights::{claim_beds, release_beds, restore_beds};
 use crate::outcome::{Grant, Outcome};
 
+// As in `effects`, the slices are lent apart, so that each function has its clauses on them.
+
 // What the booking at a place held before it was cancelled or changed.
 fn once_held_at(outcomes: &[Outcome], place: usize) -> Option<Grant>
     ensures value { option_map plain_grant result ≡ once_held_by (slice_index_or (map plain_outcome outcomes.now) place nothing) }

@@ -1,6 +1,7 @@
 -- Bytes taken in block by block.
-use Rattle.std.proofs.Common.{◌≡◌, ℕ, zero, suc, ◌+◌, ◌*◌, ◌/◌, ◌%◌, ◌≤◌, List, [], ◌∷◌, ◌++◌, length, take, drop, sym, refl, ap, ◌∙◌, subst, append_assoc, add-one, arith, length-append, length-drop, take-append-drop, length-take-le, take_all}
+use Rattle.std.proofs.Common.{◌≡◌, ℕ, zero, suc, ◌+◌, ◌*◌, ◌/◌, ◌%◌, ◌<◌, ◌≤◌, List, [], ◌∷◌, ◌++◌, length, get_or, take, drop, sym, refl, ap, ◌∙◌, append_assoc, add-one, arith, length-append, length-drop, take-append-drop, length-take-le, take_all}
 use lib.Seq.{take-append-le, drop-append-le}
+use Rattle.std.specs.Simd.{first_chunks}
 use Rattle.digest.specs.Progress.{Cut}
 use Rattle.digest.specs.Sha256.{compress_of, hashed, absorbed}
 
@@ -65,8 +66,34 @@ cut_join {s} {bytes} {state} {rest} {state'} {rest'} cut cut' = record {
 pub cut_block : (s block rest : List ℕ) → length block ≡ 64 → Cut s (block ++ rest) (compress_of s block) rest
 cut_block s block rest h = record { whole = block; split = refl; blocks = omega arith; made = sym (absorbed_last s block h) }
 
-pub cut_more : (s bytes state rest : List ℕ) → 64 ≤ length rest → Cut s bytes state rest → Cut s bytes (compress_of state (take 64 rest)) (drop 64 rest)
-cut_more s bytes state rest h cut =
-    let one : Cut state (take 64 rest ++ drop 64 rest) (compress_of state (take 64 rest)) (drop 64 rest) =
-    cut_block state (take 64 rest) (drop 64 rest) (length-take-le 64 rest h) in
-    cut_join cut (subst (λ l. Cut state l (compress_of state (take 64 rest)) (drop 64 rest)) (take-append-drop 64 rest) one)
+-- the state after one more of the blocks that some bytes are cut into
+pub hashed_push :
+    (n k : ℕ) (s bytes d : List ℕ) → n < k → hashed (n + 1) s bytes ≡ compress_of (hashed n s bytes) (get_or (first_chunks 64 k bytes) n d)
+unfolding hashed
+hashed_push n zero s bytes d h = absurd (omega arith)
+hashed_push zero (suc k) s bytes d h = refl
+hashed_push (suc n) (suc k) s bytes d h =
+    hashed_more (suc n) s bytes ∙ ap (λ m. hashed m (compress_of s (take 64 bytes)) (drop 64 bytes)) (sym (add-one n))
+    ∙ hashed_push n k (compress_of s (take 64 bytes)) (drop 64 bytes) d (omega arith)
+
+absorbed_short : (s rest : List ℕ) → length rest < 64 → absorbed s rest ≡ s
+unfolding absorbed hashed
+absorbed_short s rest h = let none : length rest / 64 ≡ 0 = omega arith in ap (λ n. hashed n s rest) none
+
+-- all the whole blocks
+pub cut_all : (s bytes state rest : List ℕ) → state ≡ hashed (length bytes / 64) s bytes → rest ≡ drop (length bytes / 64 * 64) bytes → Cut s bytes state rest
+unfolding absorbed
+cut_all s bytes state rest state-is rest-is =
+    let m = length bytes / 64 * 64 in
+    let long : length (take m bytes) ≡ m = length-take-le m bytes (omega arith) in
+    let whole : length (take m bytes) % 64 ≡ 0 = omega arith in
+    let parts : take m bytes ++ drop m bytes ≡ bytes = take-append-drop m bytes in
+    let short : length (drop m bytes) < 64 = simp length-drop (omega arith) in
+    record {
+      whole = take m bytes;
+      split = sym (ap (λ r. take m bytes ++ r) rest-is ∙ parts);
+      blocks = whole;
+      made =
+          state-is ∙ ap (absorbed s) (sym parts) ∙ absorbed_front s (take m bytes) (drop m bytes) whole
+          ∙ absorbed_short (absorbed s (take m bytes)) (drop m bytes) short;
+    }

@@ -18,12 +18,11 @@ pub(crate) struct Tail<'a> {
 pub(crate) fn absorb(state: [u32; 8], bytes: &[u8]) -> Tail<'_>
     ensures { Cut state bytes.now result.state result.rest.now }
 {
+    let (blocks, rest) = bytes.as_chunks();
     let mut s = state;
-    let mut rest = bytes;
-    while let Some((block, tail)) = rest.split_first_chunk() {
+    for block in blocks {
         let next = compress(s, block);
         s = next;
-        rest = tail;
     }
     Tail { state: s, rest }
 }

@@ -4,6 +4,7 @@ ghost use Rattle.std.specs.Prelude.{◌<◌};
 mod methods;
 
 // The state after the whole blocks, the bytes of the block that was begun (the first `filled` of it), and how many bytes came in all.
+// An array and how much of it is filled, since `compress` takes a whole block, and a hasher takes no memory.
 #[derive(Drop)]
 pub struct Hasher {
     state: [u32; 8],

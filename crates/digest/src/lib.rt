@@ -21,5 +21,6 @@ pub use hasher::Hasher;
 pub fn sha256(message: &[u8]) -> [u8; 32]
     ensures { result ≡ digest_of message.now }
 {
+    // No `From` goes from `usize` to `u64`; the check proves that nothing is lost.
     absorb(INITIAL, message).finished(message.len() as u64)
 }

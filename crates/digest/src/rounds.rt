@@ -52,6 +52,7 @@ fn early_rounds(state: [u32; 8], w: &mut [u32; 64]) -> [u32; 8]
     ensures { (block : List ℕ) → Along block state 0 state w.old → Along block state 48 result w.new }
 {
     let mut s = state;
+    // Counted: the number of the round says which constant and which word it takes.
     for t in (0..48).step_by(4) {
         let next = four_early(s, w, t);
         s = next;
@@ -59,7 +60,7 @@ fn early_rounds(state: [u32; 8], w: &mut [u32; 64]) -> [u32; 8]
     s
 }
 
-// Four rounds from the round `t` on, whose words are all stored.
+// Four rounds from the round `t` on, whose words are all stored. Beside `four_early`, since that writes the schedule, and this reads it whole.
 fn four_late(state: [u32; 8], w: &[u32; 64], t: usize) -> [u32; 8]
     requires { t + 4 ≤ 64 }
     ensures { (s : List ℕ) → state ≡ rounds t s w.now → result ≡ rounds (t + 4) s w.now }
@@ -75,6 +76,7 @@ fn late_rounds(state: [u32; 8], w: &[u32; 64]) -> [u32; 8]
     ensures { (s : List ℕ) → state ≡ rounds 48 s w.now → result ≡ rounds 64 s w.now }
 {
     let mut s = state;
+    // Counted, as the first rounds are.
     for t in (48..64).step_by(4) {
         let next = four_late(s, w, t);
         s = next;

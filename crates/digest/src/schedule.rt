@@ -8,6 +8,7 @@ use crate::words::{small_sigma0, small_sigma1, word_at};
 pub(crate) fn block_words(block: &[u8; 64]) -> [u32; 64]
     ensures { result ≡ words 16 block.now ++ replicate 48 0 }
 {
+    // `array::from_fn` would have to ask at each of the sixty-four places whether its word is one of the block's.
     let mut w = [0u32; 64];
     for t in 0..16 {
         w[t] = word_at(block, 4 * t);

@@ -16,6 +16,7 @@ pub(crate) fn maj(x: u32, y: u32, z: u32) -> u32
     (x & y) ^ (x & z) ^ (y & z)
 }
 
+// The standard names four sigma functions: one with const parameters would take three numbers in place of a name, and two of the four end in a shift.
 pub(crate) fn big_sigma0(x: u32) -> u32
     ensures { result ≡ big_sigma0 x }
 {
@@ -52,6 +53,7 @@ pub(crate) fn word_at(bytes: &[u8], i: usize) -> u32
 pub(crate) fn to_bytes(state: [u32; 8]) -> [u8; 32]
     ensures { result ≡ flat_map bytes4 state }
 {
+    // `array::from_fn` by `i / 4` and `i % 4` was tried: the proof did not get at what `to_be_bytes` gave inside the closure.
     let mut out = [0u8; 32];
     for i in 0..8 {
         out[4 * i..4 * i + 4].copy_from_slice(&state[i].to_be_bytes());

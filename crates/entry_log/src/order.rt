@@ -7,7 +7,7 @@ ghost use Rattle.entry_log.specs.Order.{before, ascends};
 
 use bookings::entry::{Entry, Mark};
 
-// Whether a mark comes before another: by its stamp, and at one stamp by its hut.
+// Whether a mark comes before another: by its stamp, and at one stamp by its hut. What `<` means, in the model's words.
 pub(crate) fn is_before(a: &Mark, b: &Mark) -> bool
     ensures { result ≡ before (plain_mark a.now) (plain_mark b.now) }
 {

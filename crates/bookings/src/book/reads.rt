@@ -46,6 +46,7 @@ impl Book {
         if hut > 15 || night > 365 {
             return Err(Refusal::OutOfRange);
         }
+        // `as`, since no `From` goes from `u64` to `usize`; both are small by the test.
         let place = hut as usize * NIGHTS + night as usize;
         Ok(Night {
             beds: self.beds[place],

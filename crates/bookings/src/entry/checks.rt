@@ -9,6 +9,8 @@ ghost use Rattle.bookings.specs.Refusals.{number_of};
 use super::{Choice, Choices, Kind, Mark, Stay, Supply};
 use crate::refusal::Refusal;
 
+// `as u8` and `as u16` stand behind tests that are narrower than the types: nothing is lost, and `try_from` would bring an error that cannot come.
+
 impl Mark {
     pub fn new(stamp: u64, hut: u64) -> Result<Mark, Refusal>
         ensures { MatchResult result
@@ -25,6 +27,7 @@ impl Mark {
         })
     }
 
+    // What `==` means, in the model's words.
     pub fn is_same(&self, other: &Mark) -> bool
         ensures { result ≡ same_mark (plain_mark self.now) (plain_mark other.now) }
     {

@@ -30,7 +30,7 @@ impl Eq for Choices {
 }
 
 impl Entry {
-    // Whether this is the very entry.
+    // Whether this is the very entry: what `==` means, in the model's words.
     pub fn is_same(&self, other: &Entry) -> bool
         ensures sound { result ≡ true → plain self.now ≡ plain other.now }
         ensures complete { plain self.now ≡ plain other.now → result ≡ true }

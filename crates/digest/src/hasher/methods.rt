@@ -36,6 +36,7 @@ impl Hasher {
         ensures { (m : List ℕ) → Fed self.old m → Fed self.new (m ++ part.now) }
     {
         let filled = self.filled;
+        // `as`, since no `From` goes from `usize` to `u64`; the check proves that nothing is lost.
         let count = self.count.wrapping_add(part.len() as u64);
         let room = 64 - filled;
         if part.len() < room {

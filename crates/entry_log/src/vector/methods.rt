@@ -42,6 +42,7 @@ impl Vector {
     pub fn join(&mut self, other: &Vector)
         ensures { self.new.stamps ≡ joined_with self.old.stamps other.now.stamps }
     {
+        // By the index, since of what a `zip` on `iter_mut` writes nothing is known after the loop.
         for (h, stamp) in self.stamps.iter_mut().enumerate() {
             *stamp = (*stamp).max(other.stamps[h]);
         }

@@ -8,6 +8,7 @@ use super::Reader;
 use crate::wrong::Wrong;
 use bookings::entry::{Choices, Entry, Kind};
 
+// `book`, `cancel`, `change` and `beds` each read the parts of their kind and make that kind: over one function each part would be named twice.
 impl<'a> Reader<'a> {
     fn choices(&mut self) -> Result<Choices, Wrong>
         ensures { MatchResult result

@@ -55,6 +55,7 @@ impl<'a> Reader<'a> {
             (λ out. end_of (read_row V.reading count self.old.rest.now) ≡ (if nat_eq out 0 then through self.new.rest.now else halted out))
             (λ e. (number_of e ≡ 1) × (end_of (read_row V.reading count self.old.rest.now) ≡ cut)) }
     {
+        // Counted, since how many are left is the answer where one is out of range.
         for i in 0..count {
             match V::read(self) {
                 Ok(_) => {}

@@ -28,6 +28,7 @@ fn sizes<V: Coded>(values: &[V]) -> usize
     ensures value { result ≡ length (flat_map V.encoding (map V.plain values.now)) }
     ensures small { result ≤ 96 * length values.now }
 {
+    // `map(..).sum()` was tried: the check finds neither the total nor the bound of each by itself, and an invariant says both.
     let mut sum = 0;
     for value in values {
         sum += value.size();

@@ -44,7 +44,7 @@ fn place_of(place: u32, committed: &[Entry]) -> u32
     if committed.is_empty() { 0 } else { place }
 }
 
-// Puts a letter behind the bytes of a buffer, in the memory that it has.
+// Puts a letter behind the bytes of a buffer, in the memory that it has. Its two slices stay two arguments: a struct would lengthen each clause.
 pub fn write_letter(
     place: u32,
     committed: &[Entry],

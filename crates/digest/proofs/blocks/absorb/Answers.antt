@@ -1,13 +1,14 @@
-use Rattle.std.proofs.Common.{◌≤◌, length, arith}
-use Rattle.digest.proofs.BlockByBlock.{cut_none, cut_more}
+use Rattle.std.proofs.Common.{◌≡◌, ◌/◌, length, sym, ap, ◌∙◌, refl, arith, rules}
+use Rattle.digest.specs.Sha256.{hashed}
+use Rattle.digest.proofs.BlockByBlock.{hashed_push, cut_all}
 use Rattle.digest.proofs.blocks.absorb.Goals as goal
 
 pub loop-block-init : goal.loop-block-init
-loop-block-init c = cut_none _ _
+unfolding hashed
+loop-block-init c = refl
 
 pub loop-block-preserved : goal.loop-block-preserved
-loop-block-preserved c =
-    let parts = c.in-Some.ensures.cases in
-    let long : 64 ≤ length c.loop-block.rest.now = omega (arith, parts.2) in
-    let more = cut_more _ _ _ _ long c.loop-block.invariant in
-    rw (← parts.0, ← parts.1, ← c.compress-next.ensures) at more
+loop-block-preserved c = search (rules, hashed_push)
+
+pub returns : goal.returns
+returns c = search (rules, cut_all)
