@@ -1,4 +1,4 @@
-use Rattle.std.proofs.Common.{◌≡◌, ◌/◌, length, sym, ap, ◌∙◌, refl, arith, rules}
+use Rattle.std.proofs.Common.{refl, rules}
 use Rattle.digest.specs.Sha256.{hashed}
 use Rattle.digest.proofs.BlockByBlock.{hashed_push, cut_all}
 use Rattle.digest.proofs.blocks.absorb.Goals as goal

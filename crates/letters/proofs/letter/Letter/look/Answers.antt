@@ -1,4 +1,4 @@
-use Rattle.std.proofs.Common.{◌≡◌, ◌+◌, ◌-◌, sym, ◌∙◌, subst, arith, rules, MatchResult}
+use Rattle.std.proofs.Common.{◌≡◌, sym, subst, rules, MatchResult}
 use Rattle.bookings.specs.Refusals.{number_of}
 use Rattle.letters.specs.Items.{heard_of}
 use Rattle.letters.specs.Letters.{Heard, damaged}

@@ -1,4 +1,4 @@
-use Rattle.std.proofs.Common.{◌≡◌, ◌+◌, ◌-◌, true, eqb, length, ◌∙◌, rules}
+use Rattle.std.proofs.Common.{◌≡◌, true, eqb, length, rules}
 use Rattle.std.proofs.lemmas.Bool.{eqb-true}
 use Rattle.letters.specs.Format.{reads}
 use Rattle.letters.specs.Items.{unread}
