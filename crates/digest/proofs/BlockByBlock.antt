@@ -1,6 +1,7 @@
 -- Bytes taken in block by block.
 use Rattle.std.proofs.Common.{◌≡◌, ℕ, zero, suc, ◌+◌, ◌*◌, ◌/◌, ◌%◌, ◌<◌, ◌≤◌, List, [], ◌∷◌, ◌++◌, length, get_or, take, drop, sym, refl, ap, ◌∙◌, append_assoc, add-one, arith, length-append, length-drop, take-append-drop, length-take-le, take_all}
 use lib.Seq.{take-append-le, drop-append-le}
+use Rattle.std.specs.List.{fold}
 use Rattle.std.specs.Simd.{first_chunks}
 use Rattle.digest.specs.Progress.{Cut}
 use Rattle.digest.specs.Sha256.{compress_of, hashed, absorbed}
@@ -66,15 +67,11 @@ cut_join {s} {bytes} {state} {rest} {state'} {rest'} cut cut' = record {
 pub cut_block : (s block rest : List ℕ) → length block ≡ 64 → Cut s (block ++ rest) (compress_of s block) rest
 cut_block s block rest h = record { whole = block; split = refl; blocks = omega arith; made = sym (absorbed_last s block h) }
 
--- the state after one more of the blocks that some bytes are cut into
-pub hashed_push :
-    (n k : ℕ) (s bytes d : List ℕ) → n < k → hashed (n + 1) s bytes ≡ compress_of (hashed n s bytes) (get_or (first_chunks 64 k bytes) n d)
+-- the state after the blocks that some bytes are cut into, one after the other
+pub hashed_folded : (n : ℕ) (s bytes : List ℕ) → fold compress_of s (first_chunks 64 n bytes) ≡ hashed n s bytes
 unfolding hashed
-hashed_push n zero s bytes d h = absurd (omega arith)
-hashed_push zero (suc k) s bytes d h = refl
-hashed_push (suc n) (suc k) s bytes d h =
-    hashed_more (suc n) s bytes ∙ ap (λ m. hashed m (compress_of s (take 64 bytes)) (drop 64 bytes)) (sym (add-one n))
-    ∙ hashed_push n k (compress_of s (take 64 bytes)) (drop 64 bytes) d (omega arith)
+hashed_folded zero s bytes = refl
+hashed_folded (suc n) s bytes = hashed_folded n (compress_of s (take 64 bytes)) (drop 64 bytes)
 
 absorbed_short : (s rest : List ℕ) → length rest < 64 → absorbed s rest ≡ s
 unfolding absorbed hashed

@@ -19,12 +19,8 @@ pub(crate) fn absorb(state: [u32; 8], bytes: &[u8]) -> Tail<'_>
     ensures { Cut state bytes.now result.state result.rest.now }
 {
     let (blocks, rest) = bytes.as_chunks();
-    let mut s = state;
-    for block in blocks {
-        let next = compress(s, block);
-        s = next;
-    }
-    Tail { state: s, rest }
+    let state = blocks.iter().fold(state, compress);
+    Tail { state, rest }
 }
 
 // The block with a message's length in its last eight bytes.

@@ -52,7 +52,7 @@ fn early_rounds(state: [u32; 8], w: &mut [u32; 64]) -> [u32; 8]
     ensures { (block : List ℕ) → Along block state 0 state w.old → Along block state 48 result w.new }
 {
     let mut s = state;
-    // Counted: the number of the round says which constant and which word it takes.
+    // Counted: the number of the round says which constant and which word it takes. By `next`, since the borrow checker does not take a call's result straight into a local that is an array.
     for t in (0..48).step_by(4) {
         let next = four_early(s, w, t);
         s = next;
