@@ -1,23 +1,17 @@
 -- Words written out as bytes.
-use Rattle.std.proofs.Common.{◌≡◌, ℕ, ◌+◌, ◌-◌, ◌*◌, ◌<◌, List, [], ◌++◌, length, get_or, take, sym, ap, ◌∙◌, arith, length-append, length-drop, length-take}
-use borrow.Rule.Slice.PartMut.{put_mid}
+use Rattle.std.proofs.Common.{◌≡◌, ℕ, suc, ◌<◌, List, [], ◌∷◌, length, get_or, refl, arith, suc-le-suc}
 use Rattle.std.specs.List.{flat_map}
 use Rattle.digest.specs.Sha256.{bytes4}
-use Rattle.std.proofs.lemmas.List.{take_more, flat_map_more}
-use Rattle.std.proofs.lemmas.Slice.{take-put_mid}
 
--- the bytes of one more word
-bytes_more : (state : List ℕ) (i : ℕ) → i < length state → flat_map bytes4 (take i state) ++ bytes4 (get_or state i 0) ≡ flat_map bytes4 (take (i + 1) state)
-bytes_more state i h = flat_map_more bytes4 [] (take i state) (get_or state i 0) ∙ ap (flat_map bytes4) (sym (take_more state i 0 h))
-
--- the bytes ys of one more word are stored
-pub bytes_stored : (out ys state : List ℕ) (i : ℕ) → length out ≡ 4 * length state → i < length state → take (4 * i) out ≡ flat_map bytes4 (take i state)
-    → ys ≡ bytes4 (get_or state i 0)
-    → (length (put_mid (4 * i) (4 * i + 4 - 4 * i) out ys) ≡ 4 * length state)
-    × (take (4 * (i + 1)) (put_mid (4 * i) (4 * i + 4 - 4 * i) out ys) ≡ flat_map bytes4 (take (i + 1) state))
-unfolding bytes4
-bytes_stored out ys state i long h e f =
-    let four : length ys ≡ 4 = ap length f in (
-      simp (length-append, length-take, length-drop) (omega arith),
-      rw (take-put_mid (4 * i) (4 * i + 4 - 4 * i) out ys (4 * (i + 1)) (omega arith) (omega arith), e, f) (bytes_more state i h),
-    )
+-- the bytes of each word, one behind the other
+pub words_out :
+    (words : List ℕ) (parts : List (List ℕ)) → length parts ≡ length words
+    → ((i : ℕ) → i < length words → get_or parts i [] ≡ bytes4 (get_or words i 0))
+    → flat_map (λ part. part) parts ≡ flat_map bytes4 words
+words_out [] [] long each = refl
+words_out [] (part ∷ parts) long each = absurd (omega arith)
+words_out (word ∷ words) [] long each = absurd (omega arith)
+words_out (word ∷ words) (part ∷ parts) long each =
+    let first : part ≡ bytes4 word = each 0 (omega arith) in
+    let rest : flat_map (λ part. part) parts ≡ flat_map bytes4 words = words_out words parts (omega arith) (λ i h. each (suc i) (suc-le-suc h)) in
+    cc

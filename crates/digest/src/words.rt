@@ -53,10 +53,7 @@ pub(crate) fn word_at(bytes: &[u8], i: usize) -> u32
 pub(crate) fn to_bytes(state: [u32; 8]) -> [u8; 32]
     ensures { result ≡ flat_map bytes4 state }
 {
-    // `array::from_fn` by `i / 4` and `i % 4` was tried: the proof did not get at what `to_be_bytes` gave inside the closure.
     let mut out = [0u8; 32];
-    for i in 0..8 {
-        out[4 * i..4 * i + 4].copy_from_slice(&state[i].to_be_bytes());
-    }
+    out.copy_from_slice(state.map(u32::to_be_bytes).as_flattened());
     out
 }
