@@ -67,7 +67,7 @@ impl<'a> Letter<'a> {
     }
 }
 
-// So that a `for` goes over the entries of a letter.
+// So that a `for` goes over the entries of a letter. `Letter::next` stands beside it, since it says besides that what is kept out stays the same.
 impl<'a> Iterator for Letter<'a> {
     type Item = Item;
 
