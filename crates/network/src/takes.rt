@@ -44,6 +44,7 @@ pub(crate) fn take_item<J: Journal + Drop>(
 {
     match item {
         Item::Committed { place, entry } => {
+            // No `From` makes a usize of a u64; nothing is lost by `as`.
             let taken = keeper.take_committed(*place as usize, *entry);
             let outcome = Outcome::Committed {
                 place: *place,
@@ -101,6 +102,7 @@ pub fn take<J: Journal + Drop>(
 {
     report.outcomes.clear();
     report.rejected = None;
+    // What is wrong with a damaged letter is no error of this call: the report says that it was kept out.
     let Ok(letter) = Letter::open(bytes) else {
         return Ok(());
     };
