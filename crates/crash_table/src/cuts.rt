@@ -21,6 +21,7 @@ fn cut_file(rt: &HostRuntime, bytes: &[u8], left: usize) -> anyhow::Result<()> {
     let mut how = OpenOptions::new();
     how.write(true);
     let file = how.open(rt, "cut")?;
+    // No `From` makes a u64 of a usize; nothing is lost by `as`.
     file.set_len(left as u64)?;
     Ok(())
 }
@@ -46,7 +47,8 @@ impl<'a> Table<'a> {
             print!(rt; "file of {left}: ")?;
             self.row(replica, cut, self.find(0, replica))?;
             let length = fs::metadata(rt, "cut")?.len();
-            if length != (left as u64).saturating_sub(cut as u64) {
+            // As above.
+            if length != left.saturating_sub(cut) as u64 {
                 println!(rt; "ERROR the file has {length} bytes")?;
             }
         }

@@ -54,6 +54,7 @@ impl<'a, P: Print> Table<'a, P> {
         };
         let mut bytes = Vec::with_capacity(self.heap, room)?;
         let out = self.out;
+        // That they are not written is what the row tells, and no error of the program.
         match write_letter(0, entries.as_slice(), &[waiting], &mut bytes) {
             Ok(()) => {
                 let length = bytes.len();
