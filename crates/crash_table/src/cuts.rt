@@ -41,9 +41,7 @@ impl<'a> Table<'a> {
         for left in 0..=bytes.len() {
             cut_file(rt, bytes.as_slice(), left)?;
             let (keeper, cut) = open(rt, "cut")?;
-            let replica = keeper
-                .shown()
-                .context("not synced when it was opened")?;
+            let replica = keeper.shown().context("not synced when it was opened")?;
             print!(rt; "file of {left}: ")?;
             self.row(replica, cut, self.find(0, replica))?;
             let length = fs::metadata(rt, "cut")?.len();

@@ -27,7 +27,7 @@ fn is_same_book(one: &Replica, other: &Replica) -> bool {
     (0..16).all(|hut| is_same_hut(one, other, hut))
 }
 
-// Whether two replicas have the same log, with as many committed, the same vector and the same book.
+// Whether two replicas have the same log, with as many committed, the same vector and the same book. Replicas have no `==`, what they show has.
 fn is_same(one: &Replica, other: &Replica) -> bool {
     one.summary() == other.summary() && one.entries() == other.entries() && is_same_book(one, other)
 }
