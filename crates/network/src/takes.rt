@@ -2,12 +2,12 @@
 ghost use Rattle.std.specs.Prelude.{◌≡◌, ◌<◌, ◌≤◌, Bool, true, false, map, length, is_ok, Ok, Err, vec_len, vec_capacity, MatchResult};
 ghost use Rattle.journal.specs.History.{Kept};
 ghost use Rattle.journal.specs.Keeping.{InStep, Moves, Lasts, state_by, most_bytes};
+ghost use Rattle.journal.specs.declared.trouble.Trouble.TheVariants.{Refused, Failed};
 ghost use Rattle.letters.specs.Items.{plain_item, left};
 ghost use Rattle.letters.specs.Letters.{read_letter};
 ghost use Rattle.network.specs.Items.{refusal_of, takes, items_taken};
-ghost use Rattle.journal.specs.declared.trouble.Trouble.TheVariants.{Refused, Failed};
-ghost use Rattle.network.specs.declared.outcome.Outcome.TheVariants.{Skipped};
 ghost use Rattle.network.specs.Taking.{plain_outcome, outcome_of, outcomes_of, take_bytes, Reports};
+ghost use Rattle.network.specs.declared.outcome.Outcome.TheVariants.{Skipped};
 
 use crate::outcome::Outcome;
 use crate::report::Report;
