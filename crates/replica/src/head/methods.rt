@@ -27,7 +27,7 @@ impl Head {
         }
     }
 
-    // The same; its number is one of the sixteen.
+    // The same of a number that may be none of the sixteen: then 2.
     pub fn new(hut: u8) -> Result<Head, Refusal>
         ensures { MatchResult result
             (λ h. (h.hut ≡ hut) × (h.entries ≡ 0) × (h.top ≡ 0) × (h.seen.stamps ≡ no_stamps))
