@@ -7,33 +7,35 @@ mod script;
 mod states;
 
 use replica::replica::Replica;
-use states::States;
+use script::Step;
+use states::Played;
 
-// One row: what was opened, how many bytes were cut off, and after which step it was so.
-pub fn row(
-    rt: &impl Print,
-    replica: &Replica,
-    cut: usize,
-    step: Option<usize>,
-) -> anyhow::Result<()> {
-    let committed = replica.committed();
-    let count = replica.entries().len();
-    print!(rt; "{committed} committed, {count} in all, {cut} bytes cut")?;
-    match step {
-        Some(step) => println!(rt; ", as after step {step}")?,
-        None => println!(rt; ", ERROR: it was never so")?,
-    }
-    Ok(())
+// Where the rows go, the steps that are played, and what they lead to: after no step, after the first, and so on.
+#[derive(Drop)]
+pub struct Table<'a> {
+    rt: &'a HostRuntime,
+    steps: &'a [Step],
+    states: Vec<Played>,
 }
 
-fn run(rt: &HostRuntime) -> anyhow::Result<()> {
-    let heap = rt.alloc();
-    let steps = script::script(heap)?;
-    let states = States::new(heap, steps.as_slice())?;
-    crashes::crashes(rt, heap, &states, steps.as_slice())?;
-    cuts::cuts(rt, &states, steps.as_slice())
+impl<'a> Table<'a> {
+    // One row: what was opened, how many bytes were cut off, and after which step it was so.
+    fn row(&self, replica: &Replica, cut: usize, step: Option<usize>) -> anyhow::Result<()> {
+        let rt = self.rt;
+        let committed = replica.committed();
+        let count = replica.entries().len();
+        print!(rt; "{committed} committed, {count} in all, {cut} bytes cut")?;
+        match step {
+            Some(step) => println!(rt; ", as after step {step}")?,
+            None => println!(rt; ", ERROR: it was never so")?,
+        }
+        Ok(())
+    }
 }
 
 fn main(rt: HostRuntime) -> anyhow::Result<()> {
-    run(&rt)
+    let steps = script::script(rt.alloc())?;
+    let table = Table::new(&rt, steps.as_slice())?;
+    table.crashes()?;
+    table.cuts()
 }

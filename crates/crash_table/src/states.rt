@@ -1,4 +1,5 @@
 // The states that a replica was in: after no step, after the first, and so on.
+use crate::Table;
 use crate::script::{Step, play};
 use journal::appender::Appender;
 use journal::journal::Journal;
@@ -7,13 +8,11 @@ use journal::memory::{JOURNAL_ROOM, Memory};
 use replica::replica::Replica;
 use std::alloc::Global;
 
-#[derive(Drop)]
-pub struct States {
-    all: Vec<Keeper<Appender<Memory>>>,
-}
+// A replica over a journal in memory.
+pub type Played = Keeper<Appender<Memory>>;
 
 // A replica over an empty journal in memory, that has played some steps.
-pub fn played(heap: Global, steps: &[Step]) -> anyhow::Result<Keeper<Appender<Memory>>> {
+pub fn played(heap: Global, steps: &[Step]) -> anyhow::Result<Played> {
     let memory = Memory::new(heap, JOURNAL_ROOM)?;
     let mut keeper = Keeper::open(heap, 0, memory, &[])?.keeper;
     play(&mut keeper, steps)?;
@@ -28,29 +27,29 @@ fn is_same_book(one: &Replica, other: &Replica) -> bool {
     (0..16).all(|hut| is_same_hut(one, other, hut))
 }
 
-// Whether two replicas have the same log, with as many committed, the same vector and the same book.
+// Whether two replicas have the same log, with as many committed, the same vector and the same book. Replicas have no `==`, what they show has.
 fn is_same(one: &Replica, other: &Replica) -> bool {
     one.summary() == other.summary() && one.entries() == other.entries() && is_same_book(one, other)
 }
 
-impl States {
-    pub fn new(heap: Global, steps: &[Step]) -> anyhow::Result<States> {
-        let mut all = Vec::with_capacity(heap, 16)?;
+impl<'a> Table<'a> {
+    pub fn new(rt: &'a HostRuntime, steps: &'a [Step]) -> anyhow::Result<Table<'a>> {
+        let mut states = Vec::with_capacity(rt.alloc(), 16)?;
         for count in 0..=steps.len() {
-            let mut keeper = played(heap, &steps[0..count])?;
+            let mut keeper = played(rt.alloc(), &steps[0..count])?;
             keeper.sync()?;
-            all.push(keeper)?;
+            states.push(keeper)?;
         }
-        Ok(States { all })
+        Ok(Table { rt, steps, states })
     }
 
     // After which step, from some step on, a replica was as this one is.
     pub fn find(&self, from: usize, replica: &Replica) -> Option<usize> {
-        for (step, keeper) in self.all.iter().enumerate().skip(from) {
-            if keeper.shown().is_some_and(|state| is_same(state, replica)) {
-                return Some(step);
-            }
-        }
-        None
+        self.states
+            .iter()
+            .enumerate()
+            .skip(from)
+            .find(|(_, keeper)| keeper.shown().is_some_and(|state| is_same(state, replica)))
+            .map(|(step, _)| step)
     }
 }

@@ -49,6 +49,7 @@ impl Medium for File {
     }
 
     fn cut(&mut self, left: usize) -> Result<(), Fault> {
+        // No `From` makes a u64 of a usize; nothing is lost by `as`.
         self.set_len(left as u64)?;
         Ok(())
     }

@@ -3,6 +3,7 @@ ghost use Rattle.std.specs.Prelude.{◌≡◌, ℕ, ◌+◌, ◌<◌, ◌≤◌,
 
 use crate::fault::Fault;
 
+// `room`, `sure` and `shut` stand at each call again, since they bind what was before it to what is after: no value carries that.
 pub trait Journal {
     // It is open and has these bytes, of which the first so many are synced.
     ghost keeps: { Self → List ℕ → ℕ → Type 0 };

@@ -15,6 +15,7 @@ pub(crate) fn replay_all(replica: &mut Replica, bytes: &[u8]) -> usize
 {
     let mut reader = Reader::new(bytes);
     let mut whole = 0;
+    // A fixed form of the project: what is read is taken apart by `let .. else`, and so is its replay (docs/DECISIONS.md, "Code forms").
     loop {
         let Ok(record) = Record::read(&mut reader) else {
             break;

@@ -15,10 +15,9 @@ fn damaged_cuts(bytes: &[u8]) -> usize {
 
 // How many entries are read of a letter.
 fn read(bytes: &[u8]) -> usize {
-    let Ok(letter) = Letter::open(bytes) else {
-        return 0;
-    };
-    letter.fold(0usize, |count, _| count.saturating_add(1))
+    Letter::open(bytes).map_or(0, |letter| {
+        letter.fold(0usize, |count, _| count.saturating_add(1))
+    })
 }
 
 impl<'a, P: Print> Table<'a, P> {
@@ -55,6 +54,7 @@ impl<'a, P: Print> Table<'a, P> {
         };
         let mut bytes = Vec::with_capacity(self.heap, room)?;
         let out = self.out;
+        // That they are not written is what the row tells, and no error of the program.
         match write_letter(0, entries.as_slice(), &[waiting], &mut bytes) {
             Ok(()) => {
                 let length = bytes.len();

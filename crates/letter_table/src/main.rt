@@ -45,6 +45,7 @@ impl<'a, P: Print> Table<'a, P> {
     // One row: what is heard of a letter.
     fn row(&self, name: &str, bytes: &[u8]) -> anyhow::Result<()> {
         let out = self.out;
+        // That it is damaged is what the row tells, and no error of the program.
         let Ok(letter) = Letter::open(bytes) else {
             println!(out; "{name}: damaged")?;
             return Ok(());

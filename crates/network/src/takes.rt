@@ -1,19 +1,34 @@
 // A letter is taken: whatever its bytes are, each entry is taken or skipped in its turn.
-ghost use Rattle.std.specs.Prelude.{◌≡◌, ◌<◌, ◌≤◌, Bool, true, false, map, length, is_ok, vec_len, vec_capacity, MatchResult};
+ghost use Rattle.std.specs.Prelude.{◌≡◌, ◌<◌, ◌≤◌, Bool, true, false, map, length, is_ok, Ok, Err, vec_len, vec_capacity, MatchResult};
 ghost use Rattle.journal.specs.History.{Kept};
 ghost use Rattle.journal.specs.Keeping.{InStep, Moves, Lasts, state_by, most_bytes};
+ghost use Rattle.journal.specs.declared.trouble.Trouble.TheVariants.{Refused, Failed};
 ghost use Rattle.letters.specs.Items.{plain_item, left};
 ghost use Rattle.letters.specs.Letters.{read_letter};
 ghost use Rattle.network.specs.Items.{refusal_of, takes, items_taken};
 ghost use Rattle.network.specs.Taking.{plain_outcome, outcome_of, outcomes_of, take_bytes, Reports};
+ghost use Rattle.network.specs.declared.outcome.Outcome.TheVariants.{Skipped};
 
 use crate::outcome::Outcome;
 use crate::report::Report;
+use bookings::entry::Mark;
 use journal::fault::Fault;
 use journal::journal::Journal;
 use journal::keeper::Keeper;
 use journal::trouble::Trouble;
 use letters::letter::{Item, Letter};
+
+// What came of an entry with a mark: the outcome where it was taken, skipped where it was refused.
+fn told(taken: Result<(), Trouble>, outcome: Outcome, mark: Mark) -> Result<Outcome, Fault>
+    ensures { MatchResult taken (λ _. result ≡ Ok outcome)
+        (λ e. elim e [ Refused w ↦ result ≡ Ok (Skipped w mark) | Failed f ↦ result ≡ Err f ]) }
+{
+    match taken {
+        Ok(()) => Ok(outcome),
+        Err(Trouble::Refused(why)) => Ok(Outcome::Skipped(why, mark)),
+        Err(Trouble::Failed(why)) => Err(why),
+    }
+}
 
 // Takes an entry, or skips it.
 pub(crate) fn take_item<J: Journal + Drop>(
@@ -29,20 +44,19 @@ pub(crate) fn take_item<J: Journal + Drop>(
 {
     match item {
         Item::Committed { place, entry } => {
-            match keeper.take_committed(*place as usize, *entry) {
-                Ok(()) => Ok(Outcome::Committed {
-                    place: *place,
-                    mark: entry.mark,
-                }),
-                Err(Trouble::Refused(why)) => Ok(Outcome::Skipped(why, entry.mark)),
-                Err(Trouble::Failed(why)) => Err(why),
-            }
+            // No `From` makes a usize of a u64; nothing is lost by `as`.
+            let taken = keeper.take_committed(*place as usize, *entry);
+            let outcome = Outcome::Committed {
+                place: *place,
+                mark: entry.mark,
+            };
+            told(taken, outcome, entry.mark)
         }
-        Item::Tentative(waiting) => match keeper.take_tentative(waiting.entry, &waiting.stood) {
-            Ok(()) => Ok(Outcome::Tentative(waiting.entry.mark)),
-            Err(Trouble::Refused(why)) => Ok(Outcome::Skipped(why, waiting.entry.mark)),
-            Err(Trouble::Failed(why)) => Err(why),
-        },
+        Item::Tentative(waiting) => {
+            let taken = keeper.take_tentative(waiting.entry, &waiting.stood);
+            let mark = waiting.entry.mark;
+            told(taken, Outcome::Tentative(mark), mark)
+        }
     }
 }
 
@@ -88,6 +102,7 @@ pub fn take<J: Journal + Drop>(
 {
     report.outcomes.clear();
     report.rejected = None;
+    // What is wrong with a damaged letter is no error of this call: the report says that it was kept out.
     let Ok(letter) = Letter::open(bytes) else {
         return Ok(());
     };

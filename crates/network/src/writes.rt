@@ -40,14 +40,10 @@ pub fn letter_for<J: Journal + Drop>(
     ensures sure { (k : Kept) → InStep J.Journal.keeps keeper.old k → 0 < J.Journal.room keeper.old.journal → vec_len out.old + 98345 ≤ vec_capacity out.old → is_ok result ≡ true }
 {
     keeper.sync()?;
-    let Some(replica) = keeper.shown() else {
-        return Err(Unsent::NoRoom);
-    };
+    // All is synced now, so the replica is shown.
+    let replica = keeper.shown().ok_or(Unsent::NoRoom)?;
     replica.hand_on(has, parcel);
     let place = place_from(has.committed);
     // A parcel never has too many entries for a letter, so there is no room.
-    let Ok(()) = write_letter(place, parcel.committed(), parcel.tentative(), out) else {
-        return Err(Unsent::NoRoom);
-    };
-    Ok(())
+    write_letter(place, parcel.committed(), parcel.tentative(), out).map_err(|_| Unsent::NoRoom)
 }

@@ -9,7 +9,7 @@ ghost use Rattle.replica.specs.Steps.{SharesFront};
 use bookings::book::Book;
 use bookings::entry::Entry;
 
-// Undoes the entries from a place on, the last first.
+// Undoes the entries from a place on, the last first. A range ends by itself; that a book gets shorter no contract says in as many words.
 fn undo_to(book: &mut Book, place: usize)
     ensures { (es : List PlainEntry) → Each InRange es → book_in book.old ≡ book_of es → book_in book.new ≡ book_of (take place es) }
 {
@@ -26,6 +26,7 @@ fn redo_from(book: &mut Book, log: &[Entry], place: usize)
     ensures { book_in book.new ≡ book_of (map plain log.now) }
 {
     for entry in &log[place..] {
+        // The book has room for each entry of a log.
         let _ = book.apply(entry);
     }
 }

@@ -16,6 +16,7 @@ mod reads;
 mod restarts;
 mod takes;
 
+// No model: `state_of` says what it comes to, and proofs about keepers read the ghost fields of its log.
 #[derive(Drop)]
 pub struct Replica {
     head: Head,

@@ -23,6 +23,7 @@ impl Keeper<Appender<Memory>> {
         let found = self.journal.medium.bytes();
         let whole = replay_all(&mut self.replica, found);
         let cut = found.len() - whole;
+        // Where that fails, the journal is shut, and nothing of it is shown.
         let _ = self.journal.restart(whole);
         cut
     }

@@ -28,9 +28,6 @@ impl<J: Journal + Drop> Keeper<J> {
     pub fn shown(&self) -> Option<&Replica>
         ensures { MatchOption result (J.clean self.now.journal ≡ false) (λ p. (p.now ≡ self.now.replica) × (J.clean self.now.journal ≡ true)) }
     {
-        if !self.journal.is_clean() {
-            return None;
-        }
-        Some(&self.replica)
+        self.journal.is_clean().then_some(&self.replica)
     }
 }

@@ -64,6 +64,7 @@ impl<J: Journal + Drop> Keeper<J> {
         ensures room { J.room self.old.journal ≤ J.room self.new.journal }
         ensures sure { (k : Kept) → InStep J.keeps self.old k → most_bytes < J.room self.old.journal → IfErr result (λ e. elim e [ Refused w ↦ Unit {0} | Failed f ↦ ⊥ ]) }
     {
+        // `commit` ends alike, but a common function would be told both the call of the replica and the record.
         let mark = self.replica.make(kind)?;
         self.append_synced(&Record::Tentative(Entry { mark, kind }))?;
         Ok(mark)

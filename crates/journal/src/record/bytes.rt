@@ -18,6 +18,7 @@ impl Record {
         ensures written { Written out.old out.new (encode_record (plain_record self.now)) }
         ensures fits { EntryOk (entry_of (plain_record self.now)) }
     {
+        // 1 and 2 are the format's own bytes, once in each direction; an enum of them would be matched a second time.
         match self {
             Record::Committed(entry) => {
                 put(out, &[1]);

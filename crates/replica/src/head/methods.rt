@@ -11,7 +11,23 @@ use bookings::refusal::Refusal;
 use entry_log::vector::Vector;
 
 impl Head {
-    // The head of a replica that has no entry; its number is one of the sixteen.
+    // The head of a replica that has no entry.
+    pub(crate) fn empty(hut: u8) -> Head
+        requires { hut < 16 }
+        ensures hut { result.hut ≡ hut }
+        ensures entries { result.entries ≡ 0 }
+        ensures top { result.top ≡ 0 }
+        ensures seen { result.seen.stamps ≡ no_stamps }
+    {
+        Head {
+            hut,
+            entries: 0,
+            top: 0,
+            seen: Vector::zero(),
+        }
+    }
+
+    // The same of a number that may be none of the sixteen: then 2.
     pub fn new(hut: u8) -> Result<Head, Refusal>
         ensures { MatchResult result
             (λ h. (h.hut ≡ hut) × (h.entries ≡ 0) × (h.top ≡ 0) × (h.seen.stamps ≡ no_stamps))
@@ -20,12 +36,7 @@ impl Head {
         if hut > 15 {
             return Err(Refusal::OutOfRange);
         }
-        Ok(Head {
-            hut,
-            entries: 0,
-            top: 0,
-            seen: Vector::zero(),
-        })
+        Ok(Head::empty(hut))
     }
 
     // The head with the entry of a mark more.

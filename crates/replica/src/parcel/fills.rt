@@ -35,6 +35,7 @@ fn gather_committed(entries: &[Entry], from: usize, out: &mut Vec<Entry>)
 {
     let start = from.min(entries.len());
     let end = start + PARCEL.min(entries.len() - start);
+    // There is room for a parcel's entries, so no memory is asked for.
     let _ = out.extend_from_slice(&entries[start..end]);
 }
 

@@ -47,6 +47,7 @@ impl Replica {
         }
         let entry = Entry { mark, kind };
         self.log.insert(entry);
+        // `next_mark` found that there is room.
         let _ = self.book.apply(&entry);
         self.head = self.head.with(&mark);
         Ok(mark)

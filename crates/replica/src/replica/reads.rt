@@ -20,7 +20,7 @@ use bookings::outcome::Outcome;
 use bookings::refusal::Refusal;
 use entry_log::vector::Vector;
 
-// What came of an entry, and whether it is committed.
+// What came of an entry, and whether it is committed. Each has its value whatever the other is, so the flag is no case of an enum.
 #[derive(Clone, Copy)]
 pub struct Told {
     pub committed: bool,
@@ -69,12 +69,8 @@ impl Replica {
             × (plain_outcome t.outcome ≡ slice_index_or (book_of (all_of (state_of self.now).log)).outcomes p nothing)))
             (λ e. (number_of e ≡ 9) × (place_from 0 (plain_mark mark.now) (marks_of (state_of self.now)) ≡ None)) }
     {
-        let Some(place) = self.book.find(mark) else {
-            return Err(Refusal::Unknown);
-        };
-        let Some(outcome) = self.book.outcome(place) else {
-            return Err(Refusal::Unknown);
-        };
+        let place = self.book.find(mark).ok_or(Refusal::Unknown)?;
+        let outcome = self.book.outcome(place).ok_or(Refusal::Unknown)?;
         Ok(Told {
             committed: place < self.committed(),
             outcome,

@@ -6,7 +6,6 @@ ghost use Rattle.replica.specs.Views.{state_of};
 use super::Replica;
 use crate::head::Head;
 use crate::redo::redo_log;
-use entry_log::vector::Vector;
 
 impl Replica {
     // No entry is known any more; its memory stays.
@@ -15,11 +14,6 @@ impl Replica {
     {
         self.log.clear();
         redo_log(&mut self.book, self.log.as_slice(), 0);
-        self.head = Head {
-            hut: self.head.hut,
-            entries: 0,
-            top: 0,
-            seen: Vector::zero(),
-        };
+        self.head = Head::empty(self.head.hut);
     }
 }

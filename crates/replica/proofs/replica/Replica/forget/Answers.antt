@@ -21,9 +21,9 @@ redo_log-requires c =
           shares_front was.log (book_in was.book) {place = 0} {at = 0} {es = map plain c.as_slice.result.now} {fs = map plain c.as_slice.result.now} was.in_step refl refl refl;
     }
 
-pub invariant_of-self-2 : goal.invariant_of-self-2
-invariant_of-self-2 c =
+pub invariant_of-self : goal.invariant_of-self
+invariant_of-self c =
     let none = ap all_of c.clear.ensures in record {
-      headed = (sym (ap length none), sym (ap top none), c.zero.ensures ∙ vector_none ∙ sym (ap vector_of none));
+      headed = (c.empty-self.ensures.entries ∙ sym (ap length none), c.empty-self.ensures.top ∙ sym (ap top none), c.empty-self.ensures.seen ∙ vector_none ∙ sym (ap vector_of none));
       in_step = ∣ c.redo_log.ensures ∙ ap book_of c.as_slice.ensures ∣₁;
     }

@@ -1,4 +1,6 @@
-use Rattle.std.proofs.Common.{ltb, get_or, sym, refl, ap, ◌∙◌, arith}
+use Rattle.std.proofs.Common.{ltb, get_or, rules, sym, ap, ◌∙◌, arith}
+use Rattle.std.proofs.lemmas.Option.{MatchOption-at_none, MatchOption-at_some}
+use Rattle.std.proofs.lemmas.Result.{err_from_is_err_and}
 use Rattle.bookings.proofs.Find.{place_is}
 use Rattle.bookings.proofs.Reach.{reached_sound}
 use Rattle.bookings.specs.Books.{PlainBook, place_from}
@@ -10,17 +12,19 @@ use Rattle.entry_log.specs.Views.{log_in}
 use Rattle.replica.proofs.Stepped.{step_is, step_marks}
 use Rattle.replica.proofs.replica.Replica.got.Goals as goal
 
-pub returns-in_default : goal.returns-in_default
-returns-in_default c =
+pub returns-in_err-place : goal.returns-in_err-place
+returns-in_err-place c =
     let marks = step_marks (book_in c.args.self.now.book) (all_of (log_in c.args.self.now.log)) c.args.self.now.in_step in
-    (refl, sym (c.in_default.ensures ∙ ap (place_from 0 (plain_mark c.args.mark.now)) marks))
+    let p = err_from_is_err_and c.from_residual.result c.from_residual.ensures.1 in
+    rw p.1 (search rules, sym (sym c.in_err-place.ensures.ok_part ∙ c.find.ensures ∙ ap (place_from 0 (plain_mark c.args.mark.now)) marks))
 
 -- a mark that is found has an outcome
-pub returns-in_default-outcome : goal.returns-in_default-outcome
-returns-in_default-outcome c =
+pub returns-in_err-outcome : goal.returns-in_err-outcome
+returns-in_err-outcome c =
     let book = book_in c.args.self.now.book in
-    let found = place_is (plain_mark c.args.mark.now) 0 c.in-Some.place book.marks (sym c.in-Some.ensures) in
-    absurd (omega (arith, found.0, c.in_default-outcome.ensures, (reached_sound book c.args.self.now.book.reached).1))
+    let found = place_is (plain_mark c.args.mark.now) 0 c.in_ok-place.place book.marks (sym c.find.ensures ∙ c.in_ok-place.ensures.ok_part) in
+    let behind = MatchOption-at_none _ _ c.in_err-outcome.ensures.ok_part c.outcome.ensures in
+    absurd (omega (arith, found.0, behind, (reached_sound book c.args.self.now.book.reached).1))
 
 pub returns : goal.returns
 returns c =
@@ -28,8 +32,8 @@ returns c =
     let es = all_of (log_in c.args.self.now.log) in
     let marks = step_marks book es c.args.self.now.in_step in
     let same = step_is book es c.args.self.now.in_step in (
-      c.in-Some.place,
-      sym (c.in-Some.ensures ∙ ap (place_from 0 (plain_mark c.args.mark.now)) marks),
-      ap (ltb c.in-Some.place) c.committed.ensures,
-      c.in-Some-outcome.ensures.1 ∙ ap (λ (b : PlainBook). get_or b.outcomes c.in-Some.place nothing) same,
+      c.in_ok-place.place,
+      sym (sym c.in_ok-place.ensures.ok_part ∙ c.find.ensures ∙ ap (place_from 0 (plain_mark c.args.mark.now)) marks),
+      ap (ltb c.in_ok-place.place) c.committed.ensures,
+      (MatchOption-at_some _ _ _ c.in_ok-outcome.ensures.ok_part c.outcome.ensures).1 ∙ ap (λ (b : PlainBook). get_or b.outcomes c.in_ok-place.place nothing) same,
     )
