@@ -4,8 +4,9 @@ ghost use Rattle.console.specs.Commands.{said_if, said_by, huts_of, at_of, book_
 
 use crate::command::Command;
 use crate::language::alone;
+use crate::mark::RawMark;
 use crate::numbers::Numbers;
-use crate::request::{RawChoice, RawChoices, RawMark, Request};
+use crate::request::{RawChoice, RawChoices, Request};
 use crate::vector::RawVector;
 use crate::verb::Verb;
 
@@ -65,28 +66,16 @@ fn book(numbers: &[u64]) -> Option<Command>
 fn cancel(numbers: &[u64]) -> Option<Command>
     ensures { said_if result ≡ cancel_of numbers.now }
 {
-    let [stamp, hut] = numbers else {
-        return None;
-    };
-    let mark = RawMark {
-        stamp: *stamp,
-        hut: *hut,
-    };
+    let (mark, behind) = RawMark::read(numbers)?;
     let request = Request::Cancel { mark };
-    Some(Command::Make { request })
+    alone(Command::Make { request }, behind)
 }
 
 fn change(numbers: &[u64]) -> Option<Command>
     ensures { said_if result ≡ change_of numbers.now }
 {
-    let [stamp, hut, choices @ ..] = numbers else {
-        return None;
-    };
+    let (mark, choices) = RawMark::read(numbers)?;
     let choices = RawChoices::read(choices)?;
-    let mark = RawMark {
-        stamp: *stamp,
-        hut: *hut,
-    };
     let request = Request::Change { mark, choices };
     Some(Command::Make { request })
 }
@@ -123,14 +112,8 @@ fn show(numbers: &[u64]) -> Option<Command>
 fn got(numbers: &[u64]) -> Option<Command>
     ensures { said_if result ≡ got_of numbers.now }
 {
-    let [stamp, hut] = numbers else {
-        return None;
-    };
-    let mark = RawMark {
-        stamp: *stamp,
-        hut: *hut,
-    };
-    Some(Command::Got { mark })
+    let (mark, behind) = RawMark::read(numbers)?;
+    alone(Command::Got { mark }, behind)
 }
 
 fn serve(numbers: &[u64]) -> Option<Command>

@@ -1,15 +1,10 @@
 // What a line asks to be entered, in numbers that may be out of range.
 ghost use Rattle.std.specs.Prelude.{◌≡◌, ◌≤◌, length};
 
+use crate::mark::RawMark;
+
 mod checks;
 mod reads;
-
-// The mark of an entry.
-#[derive(Clone, Copy)]
-pub struct RawMark {
-    pub stamp: u64,
-    pub hut: u64,
-}
 
 // Beds on some nights of a hut.
 #[derive(Clone, Copy)]

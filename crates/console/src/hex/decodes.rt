@@ -44,5 +44,5 @@ fn value(digit: u8) -> u8
     ensures value { result ≡ value_of digit }
     ensures small { result < 16 }
 {
-    (digit as char).to_digit(16).unwrap() as u8
+    char::from(digit).to_digit(16).unwrap() as u8
 }

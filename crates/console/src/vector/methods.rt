@@ -27,10 +27,7 @@ impl RawVector {
     {
         let mut stamps = [0u32; 16];
         for (hut, raw) in self.all.iter().enumerate() {
-            let Ok(stamp) = u32::try_from(*raw) else {
-                return Err(Refusal::OutOfRange);
-            };
-            stamps[hut] = stamp;
+            stamps[hut] = u32::try_from(*raw).map_err(|_| Refusal::OutOfRange)?;
         }
         Ok(Vector::new(stamps))
     }
