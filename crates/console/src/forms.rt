@@ -52,9 +52,7 @@ fn at(numbers: &[u64]) -> Option<Command>
 fn book(numbers: &[u64]) -> Option<Command>
     ensures { said_if result ≡ book_of numbers.now }
 {
-    let [guest, choices @ ..] = numbers else {
-        return None;
-    };
+    let (guest, choices) = numbers.split_first()?;
     let choices = RawChoices::read(choices)?;
     let request = Request::Book {
         guest: *guest,
@@ -83,17 +81,10 @@ fn change(numbers: &[u64]) -> Option<Command>
 fn beds(numbers: &[u64]) -> Option<Command>
     ensures { said_if result ≡ beds_of numbers.now }
 {
-    let [hut, night, nights, beds] = numbers else {
-        return None;
-    };
-    let supply = RawChoice {
-        hut: *hut,
-        night: *night,
-        nights: *nights,
-        beds: *beds,
-    };
+    let (four, behind) = numbers.split_first_chunk()?;
+    let supply = RawChoice::from(*four);
     let request = Request::Beds { supply };
-    Some(Command::Make { request })
+    alone(Command::Make { request }, behind)
 }
 
 fn show(numbers: &[u64]) -> Option<Command>

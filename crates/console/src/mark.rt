@@ -23,10 +23,7 @@ impl RawMark {
             (λ p. (asked_mark p.0 ≡ mark_of (slice_index numbers.now 0) (slice_index numbers.now 1))
             × (p.1.now ≡ drop 2 numbers.now) × (length p.1.now + 2 ≡ length numbers.now)) }
     {
-        // A pattern and no `?`, since it says how many numbers there are.
-        let [stamp, hut, behind @ ..] = numbers else {
-            return None;
-        };
+        let ([stamp, hut], behind) = numbers.split_first_chunk::<2>()?;
         let mark = RawMark {
             stamp: *stamp,
             hut: *hut,
