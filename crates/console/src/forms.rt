@@ -107,6 +107,7 @@ fn got(numbers: &[u64]) -> Option<Command>
     alone(Command::Got { mark }, behind)
 }
 
+// As `may` and `add` of a slip: a helper would take the constructor to save one line.
 fn serve(numbers: &[u64]) -> Option<Command>
     ensures { said_if result ≡ serve_of numbers.now }
 {

@@ -25,6 +25,7 @@ impl Numbers {
         let mut all = [0u64; 18];
         let mut count = 0;
         let mut left = text;
+        // A word takes the front off what is left, and what is left decides.
         while let Some((word, rest)) = first_word(left) {
             if count == 18 {
                 return None;

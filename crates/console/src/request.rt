@@ -15,7 +15,7 @@ pub struct RawChoice {
     pub beds: u64,
 }
 
-// The first `count` of the array.
+// The first `count` of the array, as `Numbers` has them: one struct of both would name a type and a size at each use.
 #[derive(Clone, Copy)]
 pub struct RawChoices {
     count: usize,

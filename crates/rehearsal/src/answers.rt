@@ -27,6 +27,7 @@ pub fn night(replica: &Replica, hut: u64, night: u64) -> Result<Answer, Refusal>
         (λ e. (number_of e ≡ 2) × ((hut < 16) × (night < 366) → ⊥)) }
 {
     let found = replica.night(hut, night)?;
+    // The replica has refused what is out of range: `try_from` would add an error that cannot come.
     Ok(night_told(hut as u8, night as u16, &found))
 }
 
@@ -35,6 +36,7 @@ pub fn noted(replica: &Replica, hut: u8, night: u16) -> Option<Answer>
     requires { (hut < 16) × (night < 366) }
     ensures { result ≡ noted_on (book_of (all_of (state_of replica.now).log)) hut night }
 {
+    // It is in range, as is required: no refusal is lost.
     let found = replica.night(u64::from(hut), u64::from(night)).ok()?;
     if found.beds == 20 && found.booked == 0 {
         return None;

@@ -15,6 +15,7 @@ impl fmt::Display for Letter<'_> {
 
     fn fmt<W: fmt::Write>(&self, f: &mut fmt::Formatter<W>) -> fmt::Result {
         f.write_str("letter ")?;
+        // `digest_vectors` and `letter_table` print bytes by such a line too: neither stands on this crate.
         for &byte in self.bytes {
             write!(f, "{byte:02x}")?;
         }

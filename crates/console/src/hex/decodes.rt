@@ -42,5 +42,6 @@ fn value(digit: u8) -> u8
     ensures value { result ≡ value_of digit }
     ensures small { result < 16 }
 {
+    // The value of a digit is less than 16, as is proved: `try_from` would add an error that cannot come.
     char::from(digit).to_digit(16).unwrap() as u8
 }

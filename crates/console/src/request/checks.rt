@@ -9,6 +9,7 @@ use super::{RawChoice, RawChoices, Request};
 use bookings::entry::{Choice, Choices, Kind, Stay, Supply};
 use bookings::refusal::Refusal;
 
+// Two lines each, that make different types.
 impl RawChoice {
     fn wanted(&self) -> Result<Choice, Refusal>
         ensures { MatchResult result

@@ -26,6 +26,7 @@ impl RawVector {
             (λ e. OutOfRange e (StampsFit self.now.all)) }
     {
         let mut stamps = [0u32; 16];
+        // By the index: the first number that is out of range ends it, which `array::from_fn` cannot.
         for (hut, raw) in self.all.iter().enumerate() {
             stamps[hut] = u32::try_from(*raw).map_err(|_| Refusal::OutOfRange)?;
         }

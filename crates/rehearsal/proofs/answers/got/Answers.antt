@@ -13,5 +13,5 @@ returns c =
     let told = c.in_ok-told.ensures in (
       (known.0, known.1),
       got_is s (asked_mark c.args.mark.now) _ _ _ _ told.0 (ap (λ m. place_from 0 m (marks_of s)) (sym known.2) ∙ told.1) told.2 told.3 c.from.ensures
-      c.from-2.ensures,
+          c.from-2.ensures,
     )
