@@ -6,7 +6,7 @@ ghost use Rattle.console.specs.Words.{words};
 use crate::number::read_number;
 use crate::words::first_word;
 
-// The first `count` of the array.
+// The first `count` of the array. They are no model of it (`impl Model`): that would forget the rest, and what is `Copy` forgets nothing.
 #[derive(Clone, Copy)]
 pub struct Numbers {
     count: usize,

@@ -16,6 +16,7 @@ pub struct RawChoice {
 }
 
 // The first `count` of the array, as `Numbers` has them: one struct of both would name a type and a size at each use.
+// They are no model of it, for the reason there.
 #[derive(Clone, Copy)]
 pub struct RawChoices {
     count: usize,

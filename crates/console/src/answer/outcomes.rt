@@ -27,8 +27,7 @@ impl From<&Outcome> for Got {
             Outcome::Changed(_, by) => Got::ChangedBy {
                 mark: RawMark::from(*by),
             },
-            Outcome::Freed(_) => Got::NotABooking,
-            Outcome::Resized(_, _) => Got::NotABooking,
+            Outcome::Freed(_) | Outcome::Resized(_, _) => Got::NotABooking,
         }
     }
 }

@@ -11,11 +11,7 @@ impl RawVector {
     pub(crate) fn read(numbers: &[u64]) -> Option<RawVector>
         ensures { MatchOption result (length numbers.now ≢ 16) (λ v. (length numbers.now ≡ 16) × (v.all ≡ numbers.now)) }
     {
-        if numbers.len() != 16 {
-            return None;
-        }
-        let mut all = [0u64; 16];
-        all.copy_from_slice(numbers);
+        let all = numbers.try_into().ok()?;
         Some(RawVector { all })
     }
 
