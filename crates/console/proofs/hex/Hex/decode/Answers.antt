@@ -1,4 +1,4 @@
-use Rattle.std.proofs.Common.{◌/◌, [], ◌++◌, map, length, refl, ap, ◌∙◌, arith, rules}
+use Rattle.std.proofs.Common.{◌/◌, [], ◌++◌, map, length, refl, ap, ◌∙◌, arith}
 use Rattle.std.proofs.lemmas.List.{take_all}
 use Rattle.console.proofs.HexOn.{length_bytes}
 use Rattle.console.proofs.HexPairs.{pair_byte, bytes_by_pairs, hex_digits, pair_digits, pairs_on}

@@ -1,4 +1,4 @@
-use Rattle.std.proofs.Common.{◌≡◌, ◌/◌, ◌%◌, length, map, take, refl, sym, ap, ◌∙◌, ⊎_elim, inl, inr, arith, rules, tests, length-set}
+use Rattle.std.proofs.Common.{◌≡◌, ◌/◌, ◌%◌, length, map, take, refl, sym, ap, ◌∙◌, ⊎_elim, inl, inr, arith, length-set}
 use Rattle.std.proofs.lemmas.List.{take_all}
 use Rattle.console.specs.Requests.{asked_choice}
 use Rattle.console.proofs.FoursOn.{four_choice, fours_by_chunks, fours_on, choices_refused, choices_read}

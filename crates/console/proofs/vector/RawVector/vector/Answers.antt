@@ -1,4 +1,4 @@
-use Rattle.std.proofs.Common.{◌≡◌, ℕ, [], ◌∷◌, ◌++◌, get_or, take, sym, ap, ◌∙◌, arith, rules, tests, length-set, below_more}
+use Rattle.std.proofs.Common.{◌≡◌, [], ◌∷◌, ◌++◌, get_or, take, sym, ap, ◌∙◌, arith, rules, tests, length-set, below_more}
 use Rattle.std.proofs.lemmas.List.{take_all, take_more, take_more_set}
 use Rattle.console.specs.Checks.{Fits32}
 use Rattle.console.proofs.vector.RawVector.vector.Goals as goal
