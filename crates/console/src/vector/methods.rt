@@ -21,11 +21,10 @@ impl RawVector {
             (λ v. StampsFit self.now.all × (v.stamps ≡ self.now.all))
             (λ e. OutOfRange e (StampsFit self.now.all)) }
     {
-        let mut stamps = [0u32; 16];
-        // By the index: the first number that is out of range ends it, which `array::from_fn` cannot.
-        for (hut, raw) in self.all.iter().enumerate() {
-            stamps[hut] = u32::try_from(*raw).map_err(|_| Refusal::OutOfRange)?;
-        }
+        let stamps = self
+            .all
+            .try_map(|raw| u32::try_from(raw))
+            .map_err(|_| Refusal::OutOfRange)?;
         Ok(Vector::new(stamps))
     }
 }
