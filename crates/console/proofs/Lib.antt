@@ -3,6 +3,7 @@ pub mod Digits
 pub mod FoursOn
 pub mod HexBack
 pub mod HexOn
+pub mod HexPairs
 pub mod HexText
 pub mod InRange
 pub mod Languages

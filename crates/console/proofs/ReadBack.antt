@@ -65,12 +65,12 @@ choices_of_numbers cs few =
 request_reads_back : (k : PlainKind) → RequestSayable k → parsed (request_line k) ≡ Ok (make k)
 request_reads_back (book g cs) h =
     says Book (g ∷ choice_numbers cs) (omega (arith, length-choice_numbers cs)) h.0
-    ∙ ap (in_form_in hut_lines Book) (sym (book_says (g ∷ choice_numbers cs) (choice_numbers cs) (Some cs) (omega arith) refl (sym (choices_of_numbers cs h.1))))
+    ∙ ap (in_form_in hut_lines Book) (sym (book_says (g ∷ choice_numbers cs) (choice_numbers cs) g (Some cs) refl (sym (choices_of_numbers cs h.1))))
 request_reads_back (cancel m) h = says Cancel (m.stamp ∷ m.hut ∷ []) (omega arith) h
 request_reads_back (change m cs) h =
     says Change (m.stamp ∷ m.hut ∷ choice_numbers cs) (omega (arith, length-choice_numbers cs)) h.0
     ∙ ap (in_form_in hut_lines Change)
-    (sym (change_says (m.stamp ∷ m.hut ∷ choice_numbers cs) (choice_numbers cs) (Some cs) (omega arith) refl (sym (choices_of_numbers cs h.1))))
+    (sym (change_says (m.stamp ∷ m.hut ∷ choice_numbers cs) (choice_numbers cs) m (Some cs) (omega arith) refl refl (sym (choices_of_numbers cs h.1))))
 request_reads_back (supply c) h = says Beds (choice_numbers (c ∷ [])) (omega arith) h
 
 pub lines_read_back : (s : Said) → Sayable s → parsed (line_of s) ≡ Ok s

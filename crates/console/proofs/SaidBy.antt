@@ -1,14 +1,14 @@
 -- What a line says by its verb and its numbers.
-use Rattle.std.proofs.Common.{◌≡◌, ℕ, ◌<◌, ◌≤◌, List, length, get_or, drop, Option, refl, arith, le-ltb, ne_eqb}
-use Rattle.bookings.specs.Plain.{PlainChoice}
+use Rattle.std.proofs.Common.{◌≡◌, ℕ, ◌≤◌, List, ◌∷◌, length, get_or, drop, Option, refl, arith, le-ltb, ne_eqb}
+use Rattle.bookings.specs.Plain.{PlainMark, PlainChoice}
 use Rattle.console.specs.Commands.{book_with, book_of, change_with, change_of}
 use Rattle.console.specs.Requests.{mark_of, choices_of}
 
 pub book_says :
-    (ns rest : List ℕ) (o : Option (List PlainChoice)) → 0 < length ns → rest ≡ drop 1 ns → o ≡ choices_of rest → book_with (get_or ns 0 0) o ≡ book_of ns
-book_says ns rest o some rest-is o_is = rw (ne_eqb (length ns) 0 (omega arith), o_is, rest-is) refl
+    (ns rest : List ℕ) (g : ℕ) (o : Option (List PlainChoice)) → ns ≡ g ∷ rest → o ≡ choices_of rest → book_with g o ≡ book_of ns
+book_says ns rest g o ns-is o_is = rw (ns-is, ne_eqb (length (g ∷ rest)) 0 (omega arith), o_is) refl
 
 pub change_says :
-    (ns rest : List ℕ) (o : Option (List PlainChoice)) → 2 ≤ length ns → rest ≡ drop 2 ns → o ≡ choices_of rest
-    → change_with (mark_of (get_or ns 0 0) (get_or ns 1 0)) o ≡ change_of ns
-change_says ns rest o some rest-is o_is = rw (le-ltb (length ns) 2 some, o_is, rest-is) refl
+    (ns rest : List ℕ) (m : PlainMark) (o : Option (List PlainChoice)) → 2 ≤ length ns → m ≡ mark_of (get_or ns 0 0) (get_or ns 1 0)
+    → rest ≡ drop 2 ns → o ≡ choices_of rest → change_with m o ≡ change_of ns
+change_says ns rest m o some m-is rest-is o_is = rw (le-ltb (length ns) 2 some, m-is, o_is, rest-is) refl

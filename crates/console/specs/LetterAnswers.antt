@@ -1,7 +1,7 @@
 -- The text of what is said about letters, and at the start.
 use Rattle.std.specs.Prelude.{ℕ, cond, List, [], ◌++◌, codes, decimal, ◌==◌}
 use Rattle.bookings.specs.Refusals.{number_of}
-use Rattle.bookings.specs.Texts.{mark_text, reason_text}
+use Rattle.bookings.specs.Texts.{reason_text}
 use Rattle.console.specs.declared.answer.letters.Carried.{Carried}
 use Rattle.console.specs.declared.answer.letters.Carried.TheVariants as carries
 use Rattle.console.specs.declared.answer.letters.Taking.{Taking}
@@ -10,6 +10,7 @@ use Rattle.console.specs.declared.answer.starts.Opened.{Opened}
 use Rattle.console.specs.declared.answer.starts.Usage.{Usage}
 use Rattle.console.specs.declared.answer.starts.Usage.TheVariants as usages
 use Rattle.console.specs.Hexes.{hex_text}
+use Rattle.console.specs.Texts.{raw_mark_text}
 
 -- what befalls letter k
 abbrev pub carried_text : Carried → List ℕ
@@ -20,9 +21,9 @@ carried_text (carries.Again k j) = codes "letter " ++ (decimal k ++ (codes " aga
 carried_text (carries.Cut k n j) = codes "letter " ++ (decimal k ++ (codes " cut to " ++ (decimal n ++ (codes " to " ++ decimal j))))
 
 abbrev pub taking_text : Taking → List ℕ
-taking_text (takings.Committed m p) = codes "taken in ink " ++ (mark_text m ++ (codes " at " ++ decimal p))
-taking_text (takings.Tentative m) = codes "taken in pencil " ++ mark_text m
-taking_text (takings.Skipped why m) = codes "passed over " ++ (decimal (number_of why) ++ (codes ": " ++ mark_text m))
+taking_text (takings.Committed m p) = codes "taken in ink " ++ (raw_mark_text m ++ (codes " at " ++ decimal p))
+taking_text (takings.Tentative m) = codes "taken in pencil " ++ raw_mark_text m
+taking_text (takings.Skipped why m) = codes "passed over " ++ (decimal (number_of why) ++ (codes ": " ++ raw_mark_text m))
 taking_text (takings.Rejected why) = codes "kept out " ++ (decimal (number_of why) ++ (codes ": " ++ reason_text why))
 taking_text (takings.Counts a b c) =
     codes "taken " ++ (decimal a ++ (codes ", passed over " ++ (decimal b ++ (codes ", kept out " ++ decimal c))))

@@ -10,5 +10,6 @@ pub mod Numbers
 pub mod Requests
 pub mod SlipAnswers
 pub mod Slips
+pub mod Texts
 pub mod Verbs
 pub mod Words

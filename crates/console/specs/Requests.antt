@@ -1,9 +1,9 @@
 -- Requests as plain numbers and lists, in the words of an entry's kind.
 use Rattle.std.specs.Prelude.{ℕ, ◌%◌, cond, List, [], ◌∷◌, map, length, take, Some, None, Option, ◌==◌, nat_lt}
 use Rattle.bookings.specs.Plain.{PlainMark, PlainChoice, PlainKind, book, cancel, change, supply}
+use Rattle.console.specs.declared.mark.RawMark.{RawMark}
 use Rattle.console.specs.declared.request.RawChoice.{RawChoice}
 use Rattle.console.specs.declared.request.RawChoices.{RawChoices}
-use Rattle.console.specs.declared.request.RawMark.{RawMark}
 use Rattle.console.specs.declared.request.Request.{Request}
 use Rattle.console.specs.declared.request.Request.TheVariants.{Book, Cancel, Change, Beds}
 
@@ -15,6 +15,10 @@ mark_of s h = record { stamp = s; hut = h }
 
 abbrev pub asked_mark : RawMark → PlainMark
 asked_mark m = mark_of m.stamp m.hut
+
+-- a mark's two numbers
+abbrev pub raw_mark : PlainMark → RawMark
+raw_mark m = record { stamp = m.stamp; hut = m.hut }
 
 abbrev pub asked_choice : RawChoice → PlainChoice
 asked_choice c = choice_of c.hut c.night c.nights c.beds

@@ -1,12 +1,13 @@
 // What a program answers: one line each.
 use crate::command::Expected;
-use bookings::entry::Mark;
+use crate::mark::RawMark;
 use bookings::refusal::Refusal;
 use entry_log::vector::Vector;
 
 mod kinds;
 pub mod letter;
 pub mod letters;
+mod outcomes;
 mod shows;
 pub mod starts;
 
@@ -14,14 +15,14 @@ pub mod starts;
 pub enum Answer {
     // An entry was made, with that mark.
     Made {
-        mark: Mark,
+        mark: RawMark,
     },
     Refused {
         why: Refusal,
     },
     // The entry with that mark was committed, and stands at that place.
     Inked {
-        mark: Mark,
+        mark: RawMark,
         place: usize,
     },
     NothingTentative,
@@ -41,14 +42,14 @@ pub enum Answer {
     // An entry of the log.
     Logged {
         place: usize,
-        mark: Mark,
+        mark: RawMark,
         standing: Standing,
         kind: KindName,
     },
     EndOfLog,
     // What the entry with that mark has got.
     Got {
-        mark: Mark,
+        mark: RawMark,
         standing: Standing,
         got: Got,
     },
@@ -88,7 +89,7 @@ pub enum Got {
     Nothing,
     Cancelled,
     ChangedBy {
-        mark: Mark,
+        mark: RawMark,
     },
     NotABooking,
 }

@@ -1,6 +1,7 @@
 // What a line asks for.
+use crate::mark::RawMark;
 use crate::numbers::Numbers;
-use crate::request::{RawMark, Request};
+use crate::request::Request;
 use crate::vector::RawVector;
 use crate::verb::Verb;
 

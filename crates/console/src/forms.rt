@@ -4,8 +4,9 @@ ghost use Rattle.console.specs.Commands.{said_if, said_by, huts_of, at_of, book_
 
 use crate::command::Command;
 use crate::language::alone;
+use crate::mark::RawMark;
 use crate::numbers::Numbers;
-use crate::request::{RawChoice, RawChoices, RawMark, Request};
+use crate::request::{RawChoice, RawChoices, Request};
 use crate::vector::RawVector;
 use crate::verb::Verb;
 
@@ -51,9 +52,7 @@ fn at(numbers: &[u64]) -> Option<Command>
 fn book(numbers: &[u64]) -> Option<Command>
     ensures { said_if result ≡ book_of numbers.now }
 {
-    let [guest, choices @ ..] = numbers else {
-        return None;
-    };
+    let (guest, choices) = numbers.split_first()?;
     let choices = RawChoices::read(choices)?;
     let request = Request::Book {
         guest: *guest,
@@ -65,28 +64,16 @@ fn book(numbers: &[u64]) -> Option<Command>
 fn cancel(numbers: &[u64]) -> Option<Command>
     ensures { said_if result ≡ cancel_of numbers.now }
 {
-    let [stamp, hut] = numbers else {
-        return None;
-    };
-    let mark = RawMark {
-        stamp: *stamp,
-        hut: *hut,
-    };
+    let (mark, behind) = RawMark::read(numbers)?;
     let request = Request::Cancel { mark };
-    Some(Command::Make { request })
+    alone(Command::Make { request }, behind)
 }
 
 fn change(numbers: &[u64]) -> Option<Command>
     ensures { said_if result ≡ change_of numbers.now }
 {
-    let [stamp, hut, choices @ ..] = numbers else {
-        return None;
-    };
+    let (mark, choices) = RawMark::read(numbers)?;
     let choices = RawChoices::read(choices)?;
-    let mark = RawMark {
-        stamp: *stamp,
-        hut: *hut,
-    };
     let request = Request::Change { mark, choices };
     Some(Command::Make { request })
 }
@@ -94,17 +81,10 @@ fn change(numbers: &[u64]) -> Option<Command>
 fn beds(numbers: &[u64]) -> Option<Command>
     ensures { said_if result ≡ beds_of numbers.now }
 {
-    let [hut, night, nights, beds] = numbers else {
-        return None;
-    };
-    let supply = RawChoice {
-        hut: *hut,
-        night: *night,
-        nights: *nights,
-        beds: *beds,
-    };
+    let (four, behind) = numbers.split_first_chunk()?;
+    let supply = RawChoice::from(*four);
     let request = Request::Beds { supply };
-    Some(Command::Make { request })
+    alone(Command::Make { request }, behind)
 }
 
 fn show(numbers: &[u64]) -> Option<Command>
@@ -123,16 +103,11 @@ fn show(numbers: &[u64]) -> Option<Command>
 fn got(numbers: &[u64]) -> Option<Command>
     ensures { said_if result ≡ got_of numbers.now }
 {
-    let [stamp, hut] = numbers else {
-        return None;
-    };
-    let mark = RawMark {
-        stamp: *stamp,
-        hut: *hut,
-    };
-    Some(Command::Got { mark })
+    let (mark, behind) = RawMark::read(numbers)?;
+    alone(Command::Got { mark }, behind)
 }
 
+// As `may` and `add` of a slip: a helper would take the constructor to save one line.
 fn serve(numbers: &[u64]) -> Option<Command>
     ensures { said_if result ≡ serve_of numbers.now }
 {

@@ -59,13 +59,8 @@ pub(crate) fn read<V: Verbs>(line: &[u8]) -> Result<V::Command, V::Expected>
 fn read_verb<V: Verbs>(word: &[u8], rest: &[u8]) -> Result<V::Command, V::Expected>
     ensures { told_as V.said result ≡ by_verb_in V.language ((V.language).verb_of word.now) (words rest.now) }
 {
-    let Some(verb) = V::named(word) else {
-        return Err(V::no_verb());
-    };
-    match read_form(verb, rest) {
-        Some(command) => Ok(command),
-        None => Err(verb.no_form()),
-    }
+    let verb = V::named(word).ok_or(V::no_verb())?;
+    read_form(verb, rest).ok_or(verb.no_form())
 }
 
 fn read_form<V: Verbs>(verb: V, rest: &[u8]) -> Option<V::Command>

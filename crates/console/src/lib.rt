@@ -8,6 +8,7 @@ pub mod hex;
 mod language;
 pub mod laws;
 pub mod line;
+pub mod mark;
 mod number;
 pub mod numbers;
 pub mod request;

@@ -19,6 +19,6 @@ pub fn read_number(word: &[u8]) -> Option<u64>
 fn digit(b: u8) -> Option<u64>
     ensures { MatchOption result ((b < 48) ⊎ (57 < b)) (λ d. (48 ≤ b) × (b ≤ 57) × (d ≡ b - 48)) }
 {
-    let value = (b as char).to_digit(10)?;
-    Some(value as u64)
+    let value = char::from(b).to_digit(10)?;
+    Some(u64::from(value))
 }

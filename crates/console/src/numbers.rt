@@ -6,7 +6,7 @@ ghost use Rattle.console.specs.Words.{words};
 use crate::number::read_number;
 use crate::words::first_word;
 
-// The first `count` of the array.
+// The first `count` of the array. They are no model of it (`impl Model`): that would forget the rest, and what is `Copy` forgets nothing.
 #[derive(Clone, Copy)]
 pub struct Numbers {
     count: usize,
@@ -25,6 +25,7 @@ impl Numbers {
         let mut all = [0u64; 18];
         let mut count = 0;
         let mut left = text;
+        // A word takes the front off what is left, and what is left decides.
         while let Some((word, rest)) = first_word(left) {
             if count == 18 {
                 return None;

@@ -1,15 +1,10 @@
 // What a line asks to be entered, in numbers that may be out of range.
 ghost use Rattle.std.specs.Prelude.{◌≡◌, ◌≤◌, length};
 
+use crate::mark::RawMark;
+
 mod checks;
 mod reads;
-
-// The mark of an entry.
-#[derive(Clone, Copy)]
-pub struct RawMark {
-    pub stamp: u64,
-    pub hut: u64,
-}
 
 // Beds on some nights of a hut.
 #[derive(Clone, Copy)]
@@ -20,7 +15,8 @@ pub struct RawChoice {
     pub beds: u64,
 }
 
-// The first `count` of the array.
+// The first `count` of the array, as `Numbers` has them: one struct of both would name a type and a size at each use.
+// They are no model of it, for the reason there.
 #[derive(Clone, Copy)]
 pub struct RawChoices {
     count: usize,

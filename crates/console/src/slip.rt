@@ -32,7 +32,7 @@ pub enum SlipVerb {
     Help,
 }
 
-// What a line should have been.
+// What a line should have been. Not `Expected`: that has two cases more, and each names its own commands in its text.
 #[derive(Clone, Copy)]
 pub enum SlipExpected {
     Command,

@@ -120,6 +120,7 @@ fn out_of_stamps(rt: &impl Print, replica: &mut Replica) -> anyhow::Result<()> {
 
 // As many entries as a replica can have.
 fn fill(replica: &mut Replica) {
+    // A refusal here would show in the rows that follow: the replica would have room.
     for _ in 0..65536 {
         let _ = replica.make(booking());
     }

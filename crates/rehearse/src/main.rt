@@ -23,6 +23,7 @@ fn run(rt: &HostRuntime) -> anyhow::Result<()> {
     let mut output = BufWriter::new(heap, rt.stdout())?;
     let mut line = Vec::new(heap);
     let mut stage = None;
+    // A `loop` would owe a measure, and input has none: so its lines are counted.
     for _ in 0..u64::MAX {
         line.clear();
         if input.read_until(b'\n', &mut line)? == 0 {

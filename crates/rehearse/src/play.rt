@@ -4,6 +4,7 @@ use anyhow::anyhow;
 use console::answer::Answer;
 use console::command::{Command, Expected};
 use console::line::read_command;
+use console::mark::RawMark;
 use console::request::Request;
 use rehearsal::answers;
 use rehearsal::cast::Cast;
@@ -75,16 +76,14 @@ fn answer(out: &mut impl Write, cast: &mut Cast, command: &Command) -> io::Resul
 }
 
 fn enter(out: &mut impl Write, cast: &mut Cast, request: &Request) -> io::Result<()> {
-    match cast.enter(request) {
-        Ok(mark) => say(out, Answer::Made { mark }),
-        Err(why) => say(out, Answer::Refused { why }),
-    }
+    let made = cast.enter(request).map(|mark| Answer::Made {
+        mark: RawMark::from(mark),
+    });
+    say_or_refuse(out, made)
 }
 
 fn commit(out: &mut impl Write, cast: &mut Cast) -> io::Result<()> {
     let place = cast.meant().committed();
-    match cast.commit() {
-        Ok(first) => say(out, answers::committed(first, place)),
-        Err(why) => say(out, Answer::Refused { why }),
-    }
+    let inked = cast.commit().map(|first| answers::committed(first, place));
+    say_or_refuse(out, inked)
 }

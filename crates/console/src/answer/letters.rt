@@ -1,5 +1,5 @@
 // What befalls letters, and the entries in them.
-use bookings::entry::Mark;
+use crate::mark::RawMark;
 use bookings::refusal::Refusal;
 
 mod shows;
@@ -19,16 +19,16 @@ pub enum Carried {
 pub enum Taking {
     // The entry with that mark is taken.
     Committed {
-        mark: Mark,
+        mark: RawMark,
         place: usize,
     },
     Tentative {
-        mark: Mark,
+        mark: RawMark,
     },
     // It is skipped, by that refusal.
     Skipped {
         why: Refusal,
-        mark: Mark,
+        mark: RawMark,
     },
     // The letter is rejected, or from this entry on.
     Rejected {

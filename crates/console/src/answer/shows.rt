@@ -104,7 +104,7 @@ impl fmt::Display for Expected {
     }
 }
 
-// A verb with what stands behind it.
+// A verb with what stands behind it. A table beside that of `read_verb`: a form has more than the verb's name.
 impl fmt::Display for Verb {
     ghost output = { λ v. Some (form_text v) };
 

@@ -26,14 +26,12 @@ impl Hex<'_> {
             (λ _. vec_capacity out.old < vec_len out.old + length (bytes_of self.entry.digits.now)) }
         ensures capacity { vec_capacity out.new ≡ vec_capacity out.old }
     {
-        let count = self.len();
-        if out.capacity() - out.len() < count {
+        let (pairs, _) = self.digits.as_chunks::<2>();
+        if out.capacity() - out.len() < pairs.len() {
             return Err(NoRoom);
         }
-        let mut left = self.digits;
-        while let [high, low, behind @ ..] = left {
+        for [high, low] in pairs {
             out.push_reserved(value(*high) * 16 + value(*low));
-            left = behind;
         }
         Ok(())
     }
@@ -44,5 +42,6 @@ fn value(digit: u8) -> u8
     ensures value { result ≡ value_of digit }
     ensures small { result < 16 }
 {
-    (digit as char).to_digit(16).unwrap() as u8
+    // The value of a digit is less than 16, as is proved: `try_from` would add an error that cannot come.
+    char::from(digit).to_digit(16).unwrap() as u8
 }

@@ -1,25 +1,15 @@
 // The kind of entry that a request asks for, if all its numbers are in range.
 ghost use Rattle.std.specs.Prelude.{◌≡◌, MatchResult};
-ghost use Rattle.bookings.specs.Plain.{plain_mark, plain_choice, plain_supply, plain_choices};
-ghost use Rattle.bookings.specs.Ranges.{MarkOk, ChoiceOk, SupplyOk, ChoicesOk};
-ghost use Rattle.console.specs.Checks.{Fits32, OutOfRange, Checked};
-ghost use Rattle.console.specs.Requests.{asked_mark, asked_choice, asked_choices, asked};
+ghost use Rattle.bookings.specs.Plain.{plain_choice, plain_supply, plain_choices};
+ghost use Rattle.bookings.specs.Ranges.{ChoiceOk, SupplyOk, ChoicesOk};
+ghost use Rattle.console.specs.Checks.{OutOfRange, Checked};
+ghost use Rattle.console.specs.Requests.{asked_choice, asked_choices, asked};
 
-use super::{RawChoice, RawChoices, RawMark, Request};
-use bookings::entry::{Choice, Choices, Kind, Mark, Stay, Supply};
+use super::{RawChoice, RawChoices, Request};
+use bookings::entry::{Choice, Choices, Kind, Stay, Supply};
 use bookings::refusal::Refusal;
 
-impl RawMark {
-    // The mark, if its numbers are in range.
-    pub fn mark(&self) -> Result<Mark, Refusal>
-        ensures { MatchResult result
-            (λ m. MarkOk (asked_mark self.now) × Fits32 self.now.stamp × (plain_mark m ≡ asked_mark self.now))
-            (λ e. OutOfRange e (MarkOk (asked_mark self.now) × Fits32 self.now.stamp)) }
-    {
-        Mark::new(self.stamp, self.hut)
-    }
-}
-
+// Two lines each, that make different types.
 impl RawChoice {
     fn wanted(&self) -> Result<Choice, Refusal>
         ensures { MatchResult result
@@ -60,9 +50,7 @@ impl Request {
     {
         match self {
             Request::Book { guest, choices } => {
-                let Ok(guest) = u32::try_from(*guest) else {
-                    return Err(Refusal::OutOfRange);
-                };
+                let guest = u32::try_from(*guest).map_err(|_| Refusal::OutOfRange)?;
                 let choices = choices.wanted()?;
                 Ok(Kind::Book { guest, choices })
             }

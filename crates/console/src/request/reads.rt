@@ -1,35 +1,39 @@
 // Choices of a line's numbers.
-ghost use Rattle.std.specs.Prelude.{◌≡◌};
-ghost use Rattle.console.specs.Requests.{choices_of, read_choices};
+ghost use Rattle.std.specs.Prelude.{◌≡◌, slice_index};
+ghost use Rattle.console.specs.Requests.{asked_choice, choice_of, choices_of, read_choices};
 
 use super::{RawChoice, RawChoices};
+
+impl From<[u64; 4]> for RawChoice {
+    ghost from_gives = { λ ns c. asked_choice c ≡ choice_of (slice_index ns 0) (slice_index ns 1) (slice_index ns 2) (slice_index ns 3) };
+
+    fn from(numbers: [u64; 4]) -> RawChoice {
+        let [hut, night, nights, beds] = numbers;
+        RawChoice {
+            hut,
+            night,
+            nights,
+            beds,
+        }
+    }
+}
 
 impl RawChoices {
     // Up to four choices of four numbers each.
     pub(crate) fn read(numbers: &[u64]) -> Option<RawChoices>
         ensures { read_choices result ≡ choices_of numbers.now }
     {
-        if numbers.len() % 4 != 0 || numbers.len() > 16 {
+        let (fours, rest) = numbers.as_chunks::<4>();
+        if !rest.is_empty() || fours.len() > 4 {
             return None;
         }
-        let mut all = [RawChoice {
-            hut: 0,
-            night: 0,
-            nights: 0,
-            beds: 0,
-        }; 4];
-        let mut count = 0;
-        let mut left = numbers;
-        while let [hut, night, nights, beds, behind @ ..] = left {
-            all[count] = RawChoice {
-                hut: *hut,
-                night: *night,
-                nights: *nights,
-                beds: *beds,
-            };
-            count += 1;
-            left = behind;
+        let mut all = [RawChoice::from([0; 4]); 4];
+        for (place, four) in fours.iter().enumerate() {
+            all[place] = RawChoice::from(*four);
         }
-        Some(RawChoices { count, all })
+        Some(RawChoices {
+            count: fours.len(),
+            all,
+        })
     }
 }

@@ -55,6 +55,7 @@ impl Verbs for SlipVerb {
     }
 }
 
+// `may`, `add` and `serve` are two lines each: a helper would take the constructor to save one of them.
 fn may(numbers: &[u64]) -> Option<SlipCommand>
     ensures { slip_said_if result ≡ sixteen_in may numbers.now }
 {

@@ -4,7 +4,7 @@ ghost use Rattle.console.specs.Slips.{slip_verb_of};
 
 use super::SlipVerb;
 
-// The verb that a word names.
+// The verb that a word names. A table beside that of `verb.rt`: each has the names of its own verbs.
 pub(crate) fn read_slip_verb(word: &[u8]) -> Option<SlipVerb>
     ensures { result ≡ slip_verb_of word.now }
 {

@@ -11,11 +11,7 @@ impl RawVector {
     pub(crate) fn read(numbers: &[u64]) -> Option<RawVector>
         ensures { MatchOption result (length numbers.now ≢ 16) (λ v. (length numbers.now ≡ 16) × (v.all ≡ numbers.now)) }
     {
-        if numbers.len() != 16 {
-            return None;
-        }
-        let mut all = [0u64; 16];
-        all.copy_from_slice(numbers);
+        let all = numbers.try_into().ok()?;
         Some(RawVector { all })
     }
 
@@ -25,13 +21,10 @@ impl RawVector {
             (λ v. StampsFit self.now.all × (v.stamps ≡ self.now.all))
             (λ e. OutOfRange e (StampsFit self.now.all)) }
     {
-        let mut stamps = [0u32; 16];
-        for (hut, raw) in self.all.iter().enumerate() {
-            let Ok(stamp) = u32::try_from(*raw) else {
-                return Err(Refusal::OutOfRange);
-            };
-            stamps[hut] = stamp;
-        }
+        let stamps = self
+            .all
+            .try_map(|raw| u32::try_from(raw))
+            .map_err(|_| Refusal::OutOfRange)?;
         Ok(Vector::new(stamps))
     }
 }

@@ -26,10 +26,7 @@ impl Cast {
             (λ _. (meant (scene_of self.new)).hut ≡ hut)
             (λ e. (number_of e ≡ 2) × Absent hut (scene_of self.old).states × (self.new.current ≡ self.old.current)) }
     {
-        let Some(place) = place_of(self.replicas.as_slice(), hut) else {
-            return Err(Refusal::OutOfRange);
-        };
-        self.current = place;
+        self.current = place_of(self.replicas.as_slice(), hut).ok_or(Refusal::OutOfRange)?;
         Ok(())
     }
 

@@ -1,11 +1,13 @@
-use Rattle.std.proofs.Common.{arith, ltb-false}
-use Rattle.std.proofs.lemmas.List.{take_rest}
+use Rattle.std.proofs.Common.{arith}
 use Rattle.console.proofs.SaidBy.{change_says}
 use Rattle.console.proofs.forms.change.Goals as goal
 
 pub returns-in_err-choices : goal.returns-in_err-choices
 returns-in_err-choices c =
-    rw c.from_residual.ensures (change_says c.args.numbers.now _ _ (omega (arith, ltb-false)) (take_rest c.args.numbers.now 2) c.in_err-choices.ensures)
+    let mark = c.in_ok-mark.ensures in
+    rw c.from_residual-in_err-choices.ensures (change_says c.args.numbers.now _ _ _ (omega (arith, mark.2)) mark.0 mark.1 c.in_err-choices.ensures)
 
 pub returns : goal.returns
-returns c = change_says c.args.numbers.now _ _ (omega (arith, ltb-false)) (take_rest c.args.numbers.now 2) c.in_ok-choices.ensures
+returns c =
+    let mark = c.in_ok-mark.ensures in
+    change_says c.args.numbers.now _ _ _ (omega (arith, mark.2)) mark.0 mark.1 c.in_ok-choices.ensures

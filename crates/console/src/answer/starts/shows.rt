@@ -1,6 +1,6 @@
 // The text of what is said at the start.
 ghost use Rattle.std.specs.Prelude.{Some};
-ghost use Rattle.console.specs.LetterAnswers.{opened_text, cut_text, usage_text};
+ghost use Rattle.console.specs.LetterAnswers.{opened_text, usage_text};
 
 use super::{Opened, Usage};
 use std::fmt;
@@ -9,31 +9,14 @@ impl fmt::Display for Opened {
     ghost output = { λ o. Some (opened_text o) };
 
     fn fmt<W: fmt::Write>(&self, f: &mut fmt::Formatter<W>) -> fmt::Result {
-        let hut = self.hut;
-        let committed = self.committed;
-        let tentative = self.tentative;
-        let cut = CutOff { bytes: self.cut };
         write!(
             f,
-            "hut {hut}: {committed} in ink, {tentative} in pencil{cut}"
-        )
-    }
-}
-
-// What was cut off a journal, if anything.
-#[derive(Clone, Copy)]
-struct CutOff {
-    bytes: usize,
-}
-
-impl fmt::Display for CutOff {
-    ghost output = { λ c. Some (cut_text c.bytes) };
-
-    fn fmt<W: fmt::Write>(&self, f: &mut fmt::Formatter<W>) -> fmt::Result {
-        if self.bytes == 0 {
-            f.write_str("")
-        } else {
-            write!(f, ", {} bytes cut off", self.bytes)
+            "hut {}: {} in ink, {} in pencil",
+            self.hut, self.committed, self.tentative
+        )?;
+        match self.cut {
+            0 => Ok(()),
+            bytes => write!(f, ", {bytes} bytes cut off"),
         }
     }
 }
