@@ -5,7 +5,7 @@ mod Counts
 pub mod Exact
 pub mod Few
 mod HeardWhole
-mod Lawful
+pub mod Lawful
 pub mod Lettering
 mod Looking
 pub mod OneEntry
