@@ -1,7 +1,7 @@
 // What is shown and handed on is read from a replica whose journal is synced.
 ghost use Rattle.std.specs.Prelude.{◌≡◌, ℕ, ◌<◌, ◌≤◌, Bool, true, false, not, List, is_ok, MatchOption, MatchResult};
 ghost use Rattle.journal.specs.History.{Kept, synced};
-ghost use Rattle.journal.specs.Keeping.{InStep, Moves, Lasts};
+ghost use Rattle.journal.specs.Keeping.{InStep, Moves, Lasts, state_by};
 
 use super::Keeper;
 use crate::fault::Fault;
@@ -9,6 +9,13 @@ use crate::journal::Journal;
 use replica::replica::Replica;
 
 impl<J: Journal + Drop> Keeper<J> {
+    // Whose replica it is.
+    pub fn hut(&self) -> u8
+        ensures { result ≡ (state_by self.now).hut }
+    {
+        self.replica.hut()
+    }
+
     // All that the replica knows is synced.
     pub fn sync(&mut self) -> Result<(), Fault>
         ensures kept { MatchResult result
