@@ -1,9 +1,11 @@
 -- The schedule of a block: its length, its words, and how they are stored one by one.
-use Rattle.std.proofs.Common.{◌≡◌, ℕ, zero, suc, ◌+◌, ◌-◌, ◌*◌, ◌<◌, ◌≤◌, List, [], ◌∷◌, ◌++◌, length, get_or, take, drop, set, replicate, sym, refl, ap, ◌∙◌, ⊎_elim, append_assoc, add-one, arith, take-append-drop, length-take-le, take_all, get_or-take}
+use Rattle.std.proofs.Common.{◌≡◌, ℕ, zero, suc, ◌+◌, ◌-◌, ◌*◌, ◌<◌, ◌≤◌, List, [], ◌∷◌, ◌++◌, length, get_or, take, drop, set, replicate, sym, refl, ap, ◌∙◌, ⊎_elim, append_assoc, add-one, arith, take-append-drop, length-take-le, take_all, drop-drop, get_or-take, get_or-drop}
 use lib.ListN.{get_or-append}
 use lib.Seq.{take-append-le, set_at, get_or_at}
 use Rattle.std.proofs.lemmas.List.{length_push}
 use Rattle.std.proofs.lemmas.Bool.{cases_lt}
+use native.Mathlib.Numerals.{unary_clauses}
+use Rattle.std.specs.Simd.{first_chunks}
 use Rattle.digest.specs.Sha256.{word_at, words, next_word, extended, schedule_of}
 use Rattle.digest.specs.Laws.{ScheduleRecurs}
 
@@ -25,6 +27,30 @@ words-at (suc n) block t h =
     (λ l. get_or-append (words n block) _ 0 t (omega arith) ∙ words-at n block t l)
     (λ l. let e : t ≡ n = omega arith in get_or_at (words n block) _ [] 0 t (omega arith) ∙ ap (λ k. word_at block (4 * k)) (sym e))
     (cases_lt t n)
+
+-- a part of the block is taken from its own first byte on
+chunk_at : (n k : ℕ) (xs : List ℕ) (t : ℕ) (d : List ℕ) → t < k → get_or (first_chunks n k xs) t d ≡ take n (drop (n * t) xs)
+chunk_at n zero xs t d h = absurd (omega arith)
+chunk_at n (suc k) xs zero d h = let front : n * 0 ≡ 0 = omega arith in rw front refl
+chunk_at n (suc k) xs (suc t) d h =
+    let more : n + n * t ≡ n * suc t = simp unary_clauses (omega arith) in
+    chunk_at n k (drop n xs) t d (omega arith) ∙ ap (take n) (drop-drop (n * t) n xs) ∙ ap (λ i. take n (drop i xs)) more
+
+byte_in : (block : List ℕ) (t i : ℕ) → i < 4 → get_or (take 4 (drop (4 * t) block)) i 0 ≡ get_or block (4 * t + i) 0
+byte_in block t i h = get_or-take 4 (drop (4 * t) block) i 0 h ∙ get_or-drop (4 * t) block i 0
+
+-- the number that the part t of a block is
+abbrev pub number_of : List ℕ → ℕ
+number_of four = get_or four 0 0 * 16777216 + get_or four 1 0 * 65536 + get_or four 2 0 * 256 + get_or four 3 0
+
+pub chunk_word : (block : List ℕ) (k t : ℕ) (d : List ℕ) → t < k → number_of (get_or (first_chunks 4 k block) t d) ≡ word_at block (4 * t)
+chunk_word block k t d h =
+    let here : 4 * t + 0 ≡ 4 * t = omega arith in
+    let first = byte_in block t 0 (omega arith) ∙ ap (λ i. get_or block i 0) here in
+    let second = byte_in block t 1 (omega arith) in
+    let third = byte_in block t 2 (omega arith) in
+    let last = byte_in block t 3 (omega arith) in
+    rw (chunk_at 4 k block t d h, first, second, third, last) refl
 
 -- one more word of the block is stored, over a zero
 pub word_stored : (block : List ℕ) (t v : ℕ) → t < 16 → v ≡ word_at block (4 * t)

@@ -31,6 +31,7 @@ fn round(state: [u32; 8], k: u32, w: u32) -> [u32; 8]
     ]
 }
 
+// Four at a time: after four rounds each of the eight words is a new one, and none was only moved.
 // Four rounds from the round `t` on, each of which stores the word that is wanted sixteen rounds later.
 fn four_early(state: [u32; 8], w: &mut [u32; 64], t: usize) -> [u32; 8]
     requires { t + 20 ≤ 64 }
@@ -52,7 +53,7 @@ fn early_rounds(state: [u32; 8], w: &mut [u32; 64]) -> [u32; 8]
     ensures { (block : List ℕ) → Along block state 0 state w.old → Along block state 48 result w.new }
 {
     let mut s = state;
-    // Counted: the number of the round says which constant and which word it takes. By `next`, since the borrow checker does not take a call's result straight into a local that is an array.
+    // Not by `fold`: of the schedule that its closure writes, the proof knows nothing. By `next`, since the borrow checker does not take a call's result straight into a local that is an array.
     for t in (0..48).step_by(4) {
         let next = four_early(s, w, t);
         s = next;
@@ -76,7 +77,7 @@ fn late_rounds(state: [u32; 8], w: &[u32; 64]) -> [u32; 8]
     ensures { (s : List ℕ) → state ≡ rounds 48 s w.now → result ≡ rounds 64 s w.now }
 {
     let mut s = state;
-    // Counted, as the first rounds are.
+    // A loop as for the first rounds, so that the two read alike; the number of the round says which constant and which word it takes.
     for t in (48..64).step_by(4) {
         let next = four_late(s, w, t);
         s = next;

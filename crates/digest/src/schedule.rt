@@ -2,7 +2,7 @@
 ghost use Rattle.std.specs.Prelude.{◌≡◌, ◌<◌, ◌≤◌, ◌++◌, length, replicate, slice_set};
 ghost use Rattle.digest.specs.Sha256.{words, next_word};
 
-use crate::words::{small_sigma0, small_sigma1, word_at};
+use crate::words::{small_sigma0, small_sigma1};
 
 // The sixteen words of a block, with room for forty-eight more.
 pub(crate) fn block_words(block: &[u8; 64]) -> [u32; 64]
@@ -10,8 +10,8 @@ pub(crate) fn block_words(block: &[u8; 64]) -> [u32; 64]
 {
     // `array::from_fn` would have to ask at each of the sixty-four places whether its word is one of the block's.
     let mut w = [0u32; 64];
-    for t in 0..16 {
-        w[t] = word_at(block, 4 * t);
+    for (t, four) in block.as_chunks::<4>().0.iter().enumerate() {
+        w[t] = u32::from_be_bytes(*four);
     }
     w
 }

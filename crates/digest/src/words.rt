@@ -1,8 +1,8 @@
 // The six functions on 32-bit words (FIPS 180-4, 4.1.2), and words as bytes with the most significant first.
-ghost use Rattle.std.specs.Prelude.{◌≡◌, ◌+◌, ◌≤◌, length};
+ghost use Rattle.std.specs.Prelude.{◌≡◌};
 ghost use Rattle.std.specs.List.{flat_map};
 ghost use Rattle.digest.specs.Sha256.{ch_of, maj_of, big_sigma0, big_sigma1, small_sigma0, small_sigma1};
-ghost use Rattle.digest.specs.Sha256.{word_at, bytes4};
+ghost use Rattle.digest.specs.Sha256.{bytes4};
 
 pub(crate) fn ch(x: u32, y: u32, z: u32) -> u32
     ensures { result ≡ ch_of x y z }
@@ -39,14 +39,6 @@ pub(crate) fn small_sigma1(x: u32) -> u32
     ensures { result ≡ small_sigma1 x }
 {
     x.rotate_right(17) ^ x.rotate_right(19) ^ (x >> 10)
-}
-
-// The word at the byte `i`.
-pub(crate) fn word_at(bytes: &[u8], i: usize) -> u32
-    requires { i + 4 ≤ length bytes.now }
-    ensures { result ≡ word_at bytes.now i }
-{
-    u32::from_be_bytes([bytes[i], bytes[i + 1], bytes[i + 2], bytes[i + 3]])
 }
 
 // The bytes of a state's eight words.

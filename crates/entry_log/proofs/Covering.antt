@@ -1,5 +1,6 @@
 -- What is asked, and made, of two vectors hut by hut.
-use Rattle.std.proofs.Common.{◌≡◌, ℕ, zero, suc, max, Bool, true, false, cond, ◌&&◌, leb, sym, List, [], ◌∷◌, length, get_or, refl, ap, ◌∙◌, arith}
+use Rattle.std.proofs.Common.{◌≡◌, ℕ, zero, suc, ◌<◌, max, Bool, true, false, cond, ◌&&◌, leb, sym, List, [], ◌∷◌, length, get_or, ext_get_or, refl, ap, ◌∙◌, arith}
+use Rattle.bookings.proofs.Over.{length_over, over-inside}
 use Rattle.std.specs.List.{list_all, zip}
 use Rattle.bookings.specs.Nights.{over}
 use Rattle.entry_log.specs.Vectors.{covers_from, covers, joined_with}
@@ -26,6 +27,13 @@ unfolding covers
 all_covered a b many_a many-b = all_from a b 16 many_a many-b
 
 -- the higher of two stamps, hut by hut
-pub join_end : (a b ys : List ℕ) (h : ℕ) → ys ≡ over (λ k s. max s (get_or b k 0)) a 0 h → h ≡ 16 → ys ≡ joined_with a b
+pub joined_is :
+    (out a b : List ℕ) → length out ≡ 16 → length a ≡ 16
+    → ((h : ℕ) → h < 16 → get_or out h 0 ≡ max (get_or a h 0) (get_or b h 0)) → out ≡ joined_with a b
 unfolding joined_with
-join_end a b ys h is all = is ∙ ap (over (λ k s. max s (get_or b k 0)) a 0) all
+joined_is out a b long-out long-a each =
+    let f = λ (h s : ℕ). max s (get_or b h 0) in
+    ext_get_or 0 out (over f a 0 16) (long-out ∙ sym (length_over f a 0 16 ∙ long-a))
+    (λ h in-out.
+    let in-huts : h < 16 = omega arith in
+    each h in-huts ∙ sym (over-inside f a 0 16 h (omega arith) (omega arith) in-huts))

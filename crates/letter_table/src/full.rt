@@ -13,8 +13,9 @@ fn damaged_cuts(bytes: &[u8]) -> usize {
         .count()
 }
 
-// How many entries are read of a letter.
+// How many entries are read of a letter. One that is damaged has none to read.
 fn read(bytes: &[u8]) -> usize {
+    // `map_or(0, Letter::count)` was tried: the check does not find by itself what `count` asks of a letter.
     Letter::open(bytes).map_or(0, |letter| {
         letter.fold(0usize, |count, _| count.saturating_add(1))
     })
@@ -39,8 +40,8 @@ impl<'a, P: Print> Table<'a, P> {
     // So many bookings.
     fn many(&self, count: u32) -> anyhow::Result<Vec<Entry>> {
         let mut entries = Vec::with_capacity(self.heap, 1025)?;
-        for i in 0..count {
-            entries.push(booking(i.saturating_add(1))?)?;
+        for stamp in 1..=count {
+            entries.push(booking(stamp)?)?;
         }
         Ok(entries)
     }

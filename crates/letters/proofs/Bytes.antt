@@ -48,10 +48,6 @@ four_back a b c d p q r s =
     let last : n % 256 ≡ d = omega arith in
     rw (first, second, third, last) refl
 
-pub bytes_none : (bs : List ℕ) → length bs < 1 → Bytes bs
-bytes_none [] h = tt
-bytes_none (b ∷ bs) h = absurd (omega arith)
-
 -- what a slice of bytes holds
 pub bytes_typed : (bs : List ℕ) → ((i : ℕ) → Fits w8 (get_or bs i 0)) → Bytes bs
 bytes_typed [] fits = tt

@@ -1,14 +1,11 @@
 -- One part put behind another, and room for the next.
-use Rattle.std.proofs.Common.{◌≡◌, ℕ, zero, suc, ◌+◌, ◌<◌, ◌≤◌, List, [], ◌∷◌, ◌++◌, map, length, get_or, take, vec_items, sym, refl, ap, ◌∙◌, subst, append_assoc, append-nil, arith, length-append, take_all}
+use Rattle.std.proofs.Common.{◌≡◌, ℕ, zero, suc, ◌+◌, ◌<◌, ◌≤◌, List, [], ◌∷◌, ◌++◌, map, length, get_or, take, vec_items, sym, ap, ◌∙◌, subst, append_assoc, arith, length-append, take_all}
 use Rattle.std.specs.List.{flat_map}
 use Rattle.std.specs.Global.{Vec}
 use Rattle.std.proofs.lemmas.List.{map_more, flat_map_more}
 use Rattle.bookings.specs.Ranges.{Each}
 use Rattle.bookings.proofs.Each.{each_push}
 use Rattle.letters.specs.Buffers.{Room, Written}
-
-pub written_none : (v : Vec ℕ) → Written v v []
-written_none v = record { items = sym (append-nil (vec_items v)); len = omega arith; capacity = refl }
 
 pub written_then : (a b c : Vec ℕ) (ps qs : List ℕ) → Written a b ps → Written b c qs → Written a c (ps ++ qs)
 written_then a b c ps qs one two =

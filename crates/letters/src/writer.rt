@@ -24,7 +24,7 @@ pub fn put(out: &mut Vec<u8>, part: &[u8])
     requires { Room out.old part.now }
     ensures { Written out.old out.new part.now }
 {
-    // Byte by byte: the vector's other methods that add many values take memory, and may fail.
+    // Byte by byte: `extend_from_slice` does not say that the memory stays the same, which `Written` does.
     for byte in part {
         out.push_reserved(*byte);
     }

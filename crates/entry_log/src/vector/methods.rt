@@ -5,6 +5,7 @@ ghost use Rattle.entry_log.specs.Vectors.{no_stamps, noted, covers, joined_with}
 
 use super::Vector;
 use bookings::entry::Mark;
+use std::array;
 
 impl Vector {
     pub fn zero() -> Vector
@@ -42,9 +43,6 @@ impl Vector {
     pub fn join(&mut self, other: &Vector)
         ensures { self.new.stamps ≡ joined_with self.old.stamps other.now.stamps }
     {
-        // By the index, since of what a `zip` on `iter_mut` writes nothing is known after the loop.
-        for (h, stamp) in self.stamps.iter_mut().enumerate() {
-            *stamp = (*stamp).max(other.stamps[h]);
-        }
+        self.stamps = array::from_fn(|h| self.stamps[h].max(other.stamps[h]));
     }
 }

@@ -1,24 +1,14 @@
 // Opening a letter: its first byte, length and digest, and then from its front to its end or to the first entry out of range.
-ghost use Rattle.std.specs.Prelude.{◌≡◌, ◌≤◌, length, MatchResult};
+ghost use Rattle.std.specs.Prelude.{◌≡◌, MatchResult};
 ghost use Rattle.bookings.specs.Refusals.{number_of};
 ghost use Rattle.letters.specs.Items.{heard_of, heard_on};
-ghost use Rattle.letters.specs.Letters.{damaged, read_body, read_letter, signed};
+ghost use Rattle.letters.specs.Letters.{damaged, read_body, read_letter};
 
 use super::{LETTER, Letter, Unread};
 use crate::reader::Reader;
 use bookings::entry::Entry;
 use bookings::refusal::Refusal;
 use entry_log::waiting::Waiting;
-
-// Whether the last 32 bytes are the digest of all before them.
-fn is_signed(bytes: &[u8]) -> bool
-    requires { 32 ≤ length bytes.now }
-    ensures { result ≡ signed bytes.now }
-{
-    let end = bytes.len() - 32;
-    let sum = digest::sha256(&bytes[0..end]);
-    &sum[0..32] == &bytes[end..]
-}
 
 impl<'a> Unread<'a> {
     // So many values, from where another reader stands.
@@ -38,10 +28,14 @@ impl<'a> Letter<'a> {
             (λ l. read_letter bytes.now ≡ heard_of l)
             (λ e. (number_of e ≡ 1) × (read_letter bytes.now ≡ damaged)) }
     {
-        if bytes.len() < 41 || bytes[0] != 66 || !is_signed(bytes) {
+        let (signed, sum) = bytes.split_last_chunk::<32>().ok_or(Refusal::Damaged)?;
+        let [66, body @ ..] = signed else {
+            return Err(Refusal::Damaged);
+        };
+        if bytes.len() < 41 || digest::sha256(signed) != *sum {
             return Err(Refusal::Damaged);
         }
-        Letter::look(Reader::new(&bytes[1..bytes.len() - 32]))
+        Letter::look(Reader::new(body))
     }
 
     // Looks through what stands between the first byte and the digest.

@@ -43,6 +43,7 @@ impl<'a> Reader<'a> {
             (λ e. read_one self.old.rest.now ≡ wrong e) }
         ensures bytes { Bytes self.old.rest.now }
     {
+        // `let [byte] = self.take::<1>()?` was tried: with no local that holds the slice, nothing says that what is left are bytes.
         let bytes = self.rest;
         self.take::<1>()?;
         Ok(bytes[0])
@@ -70,13 +71,9 @@ impl<'a> Reader<'a> {
             (λ m. read_mark self.old.rest.now ≡ got (plain_mark m) self.new.rest.now)
             (λ e. read_mark self.old.rest.now ≡ wrong e) }
     {
-        // Not by `Mark::new`, and below not by `Stay::new` and `Choice::new`: these take numbers of any size, and a letter's are bytes already.
         let [a, b, c, d, hut] = self.take::<5>()?;
         let stamp = u32::from_be_bytes([a, b, c, d]);
-        if stamp < 1 || hut >= 16 {
-            return Err(Wrong::Out);
-        }
-        Ok(Mark { stamp, hut })
+        Mark::new(u64::from(stamp), u64::from(hut)).map_err(|_| Wrong::Out)
     }
 
     // A stay and a number of beds.
@@ -87,10 +84,10 @@ impl<'a> Reader<'a> {
     {
         let [hut, high, low, nights, beds] = self.take::<5>()?;
         let night = u16::from_be_bytes([high, low]);
-        if hut >= 16 || nights < 1 || nights > 14 || u32::from(night) + u32::from(nights) > 366 {
-            return Err(Wrong::Out);
-        }
-        Ok((Stay { hut, night, nights }, beds))
+        let stay = Stay::new(u64::from(hut), u64::from(night), u64::from(nights)).map_err(
+            |_| Wrong::Out,
+        )?;
+        Ok((stay, beds))
     }
 
     pub(crate) fn supply(&mut self) -> Result<Supply, Wrong>
@@ -108,9 +105,6 @@ impl<'a> Reader<'a> {
             (λ e. read_choice self.old.rest.now ≡ wrong e) }
     {
         let (stay, beds) = self.stay()?;
-        if beds < 1 || beds > 20 {
-            return Err(Wrong::Out);
-        }
-        Ok(Choice { stay, beds })
+        Choice::new(stay, u64::from(beds)).map_err(|_| Wrong::Out)
     }
 }
