@@ -89,9 +89,6 @@ impl<M: Medium + Drop> Journal for Appender<M> {
     }
 
     fn is_clean(&self) -> bool {
-        match self.phase {
-            Phase::Synced => true,
-            Phase::Written | Phase::Shut => false,
-        }
+        matches!(self.phase, Phase::Synced)
     }
 }
