@@ -31,6 +31,7 @@ pub enum Command {
 }
 
 // What a line should have been.
+// It is answered in a line, and no error of a program: so no `Error`.
 #[derive(Clone, Copy)]
 pub enum Expected {
     Command,

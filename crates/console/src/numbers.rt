@@ -25,7 +25,7 @@ impl Numbers {
         let mut all = [0u64; 18];
         let mut count = 0;
         let mut left = text;
-        // A word takes the front off what is left, and what is left decides.
+        // By `first_word` and no iterator of words: the other readers hand on whole what is left behind a word, so only this loop would use one.
         while let Some((word, rest)) = first_word(left) {
             if count == 18 {
                 return None;

@@ -42,6 +42,7 @@ fn main(rt: HostRuntime) -> ExitCode {
     match run(&rt) {
         Ok(()) => ExitCode::SUCCESS,
         Err(why) => {
+            // Where that fails too, nothing can be said.
             let _ = eprintln!(rt; "error: {why}");
             ExitCode::FAILURE
         }

@@ -3,9 +3,11 @@ ghost use Rattle.std.specs.Prelude.{◌≡◌, ◌+◌, ◌<◌, ◌≤◌, true
 ghost use Rattle.console.specs.Hexes.{is_digit, value_of, bytes_of};
 
 use super::Hex;
+use thiserror::Error;
 
 // The room that a buffer has does not suffice.
-#[derive(Clone, Copy)]
+#[derive(Clone, Copy, Debug, PartialEq, Eq, Error)]
+#[error("the buffer has no room")]
 pub struct NoRoom;
 
 impl Hex<'_> {
