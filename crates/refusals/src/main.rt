@@ -7,14 +7,15 @@ use console::answer::Answer;
 use entry_log::vector::Vector;
 use replica::fault::Fault;
 use replica::replica::Replica;
+use std::alloc::Global;
 
 // One row: a call, and how it refused, if it did.
-fn row<T: Copy>(rt: &impl Print, call: &str, done: Result<T, Refusal>) -> anyhow::Result<()> {
+fn row<T: Copy>(out: &impl Print, call: &str, done: Result<T, Refusal>) -> anyhow::Result<()> {
     match done {
-        Ok(_) => println!(rt; "{call}: done")?,
+        Ok(_) => println!(out; "{call}: done")?,
         Err(why) => {
             let answer = Answer::Refused { why };
-            println!(rt; "{call}: {answer}")?;
+            println!(out; "{call}: {answer}")?;
         }
     }
     Ok(())
@@ -39,141 +40,122 @@ fn ahead() -> Vector {
     Vector::new([0, 0, 0, 4, 0, 0, 0, 0, 0, 0, 0, 0, 0, 0, 0, 0])
 }
 
-fn make_and_ask(rt: &impl Print, replica: &mut Replica) -> anyhow::Result<()> {
-    let unknown = Mark::new(9, 9)?;
-    row(
-        rt,
-        "make a cancel of no entry",
-        replica.make(Kind::Cancel { mark: unknown }),
-    )?;
-    row(rt, "make a booking", replica.make(booking()))?;
-    row(rt, "commit away from hut 0", replica.commit())?;
-    row(rt, "night of hut 16", replica.night(16, 0))?;
-    row(rt, "night 366", replica.night(0, 366))?;
-    row(rt, "got of no entry", replica.got(&unknown))?;
-    row(rt, "serve a slip that is ahead", replica.serve(ahead()))?;
-    row(rt, "serve a new slip", replica.serve(Vector::zero()))
+// Where the rows go, and whose calls they are.
+#[derive(Drop)]
+struct Table<'a, P: Print> {
+    out: &'a P,
+    replica: Replica,
 }
 
-fn take_tentative(rt: &impl Print, replica: &mut Replica) -> anyhow::Result<()> {
-    let none = Vector::zero();
-    row(
-        rt,
-        "take a tentative entry",
-        replica.take_tentative(entry(1, 2)?, &none),
-    )?;
-    row(
-        rt,
-        "take it again",
-        replica.take_tentative(entry(1, 2)?, &ahead()),
-    )?;
-    row(
-        rt,
-        "take one with a gap",
-        replica.take_tentative(entry(5, 3)?, &ahead()),
-    )?;
-    row(
-        rt,
-        "take the last stamp",
-        replica.take_tentative(entry(4294967295, 3)?, &none),
-    )
-}
+impl<'a, P: Print> Table<'a, P> {
+    fn make(&mut self, call: &str, kind: Kind) -> anyhow::Result<()> {
+        row(self.out, call, self.replica.make(kind))
+    }
 
-fn take_committed(rt: &impl Print, replica: &mut Replica) -> anyhow::Result<()> {
-    row(
-        rt,
-        "take a later place",
-        replica.take_committed(1, entry(4294967295, 3)?),
-    )?;
-    row(
-        rt,
-        "take the next place",
-        replica.take_committed(0, entry(1, 2)?),
-    )?;
-    row(
-        rt,
-        "take that again",
-        replica.take_committed(0, entry(1, 2)?),
-    )?;
-    row(
-        rt,
-        "take an earlier place",
-        replica.take_committed(0, entry(7, 3)?),
-    )?;
-    row(
-        rt,
-        "take the last stamp in its place",
-        replica.take_committed(1, entry(4294967295, 3)?),
-    )
-}
+    fn commit(&mut self, call: &str) -> anyhow::Result<()> {
+        row(self.out, call, self.replica.commit())
+    }
 
-// A stamp that nothing can follow.
-fn out_of_stamps(rt: &impl Print, replica: &mut Replica) -> anyhow::Result<()> {
-    let last = entry(4294967294, 2)?;
-    row(
-        rt,
-        "take the stamp before the last",
-        replica.take_tentative(last, &Vector::zero()),
-    )?;
-    row(rt, "make with no stamp left", replica.make(booking()))
-}
+    fn tentative(&mut self, call: &str, entry: Entry, stood: Vector) -> anyhow::Result<()> {
+        row(self.out, call, self.replica.take_tentative(entry, &stood))
+    }
 
-// As many entries as a replica can have.
-fn fill(replica: &mut Replica) {
-    // A refusal here would show in the rows that follow: the replica would have room.
-    for _ in 0..65536 {
-        let _ = replica.make(booking());
+    fn committed(&mut self, call: &str, place: usize, entry: Entry) -> anyhow::Result<()> {
+        row(self.out, call, self.replica.take_committed(place, entry))
+    }
+
+    fn make_and_ask(&mut self) -> anyhow::Result<()> {
+        let unknown = Mark::new(9, 9)?;
+        self.make("make a cancel of no entry", Kind::Cancel { mark: unknown })?;
+        self.make("make a booking", booking())?;
+        self.commit("commit away from hut 0")?;
+        let replica = &self.replica;
+        row(self.out, "night of hut 16", replica.night(16, 0))?;
+        row(self.out, "night 366", replica.night(0, 366))?;
+        row(self.out, "got of no entry", replica.got(&unknown))?;
+        row(
+            self.out,
+            "serve a slip that is ahead",
+            replica.serve(ahead()),
+        )?;
+        row(self.out, "serve a new slip", replica.serve(Vector::zero()))
+    }
+
+    fn take_tentative(&mut self) -> anyhow::Result<()> {
+        let none = Vector::zero();
+        self.tentative("take a tentative entry", entry(1, 2)?, none)?;
+        self.tentative("take it again", entry(1, 2)?, ahead())?;
+        self.tentative("take one with a gap", entry(5, 3)?, ahead())?;
+        self.tentative("take the last stamp", entry(4294967295, 3)?, none)
+    }
+
+    fn take_committed(&mut self) -> anyhow::Result<()> {
+        let last = entry(4294967295, 3)?;
+        self.committed("take a later place", 1, last)?;
+        self.committed("take the next place", 0, entry(1, 2)?)?;
+        self.committed("take that again", 0, entry(1, 2)?)?;
+        self.committed("take an earlier place", 0, entry(7, 3)?)?;
+        self.committed("take the last stamp in its place", 1, last)
+    }
+
+    // A stamp that nothing can follow.
+    fn out_of_stamps(&mut self) -> anyhow::Result<()> {
+        let last = entry(4294967294, 2)?;
+        self.tentative("take the stamp before the last", last, Vector::zero())?;
+        self.make("make with no stamp left", booking())
+    }
+
+    // As many entries as a replica can have.
+    fn fill(&mut self) {
+        // A refusal here would show in the rows that follow: the replica would have room.
+        for _ in 0..65536 {
+            let _ = self.replica.make(booking());
+        }
+    }
+
+    fn out_of_room(&mut self) -> anyhow::Result<()> {
+        let unknown = Mark::new(9, 9)?;
+        let other = entry(9, 9)?;
+        self.make("make in a full log", booking())?;
+        self.make(
+            "make a cancel of no entry in a full log",
+            Kind::Cancel { mark: unknown },
+        )?;
+        self.tentative(
+            "take a tentative entry in a full log",
+            other,
+            Vector::zero(),
+        )?;
+        self.tentative("take one with a gap in a full log", other, ahead())?;
+        self.committed("take a committed entry in a full log", 0, other)?;
+        self.committed("take a known one in a full log", 0, entry(1, 0)?)?;
+        self.commit("commit in a full log")
     }
 }
 
-fn out_of_room(rt: &impl Print, replica: &mut Replica) -> anyhow::Result<()> {
-    let unknown = Mark::new(9, 9)?;
-    row(rt, "make in a full log", replica.make(booking()))?;
-    row(
-        rt,
-        "make a cancel of no entry in a full log",
-        replica.make(Kind::Cancel { mark: unknown }),
-    )?;
-    row(
-        rt,
-        "take a tentative entry in a full log",
-        replica.take_tentative(entry(9, 9)?, &Vector::zero()),
-    )?;
-    row(
-        rt,
-        "take one with a gap in a full log",
-        replica.take_tentative(entry(9, 9)?, &ahead()),
-    )?;
-    row(
-        rt,
-        "take a committed entry in a full log",
-        replica.take_committed(0, entry(9, 9)?),
-    )?;
-    row(
-        rt,
-        "take a known one in a full log",
-        replica.take_committed(0, entry(1, 0)?),
-    )?;
-    row(rt, "commit in a full log", replica.commit())
-}
-
-fn table(rt: &HostRuntime) -> anyhow::Result<()> {
-    let heap = rt.alloc();
-    let refused = match Replica::new(heap, 16) {
+fn open_hut_16(heap: Global) -> Result<(), Refusal> {
+    match Replica::new(heap, 16) {
         Err(Fault::Refused(why)) => Err(why),
+        // Without memory the row would say `done`, and differ from its file.
         _ => Ok(()),
-    };
-    row(rt, "open hut 16", refused)?;
-    let mut replica = Replica::new(heap, 1)?;
-    make_and_ask(rt, &mut replica)?;
-    take_tentative(rt, &mut replica)?;
-    take_committed(rt, &mut replica)?;
-    out_of_stamps(rt, &mut replica)?;
-    let mut full = Replica::new(heap, 0)?;
-    fill(&mut full);
-    out_of_room(rt, &mut full)
+    }
 }
 
 fn main(rt: HostRuntime) -> anyhow::Result<()> {
-    table(&rt)
+    let heap = rt.alloc();
+    row(&rt, "open hut 16", open_hut_16(heap))?;
+    let mut table = Table {
+        out: &rt,
+        replica: Replica::new(heap, 1)?,
+    };
+    table.make_and_ask()?;
+    table.take_tentative()?;
+    table.take_committed()?;
+    table.out_of_stamps()?;
+    let mut full = Table {
+        out: &rt,
+        replica: Replica::new(heap, 0)?,
+    };
+    full.fill();
+    full.out_of_room()
 }
