@@ -7,11 +7,7 @@ use Rattle.replica.specs.Views.{state_of}
 use Rattle.replica.specs.declared.fault.Fault.{Fault}
 use Rattle.replica.specs.declared.fault.Fault.TheVariants.{Memory, Refused}
 use Rattle.replica.specs.declared.replica.Replica.{Replica}
-use Rattle.rehearsal.proofs.Placed.{state_at}
 use Rattle.rehearsal.specs.Scenes.{CastOk, Absent, Unmade}
-
-pub hut-at : (ps : List Replica) (i n : ℕ) (p : Replica) → i < length ps → p ≡ get_or ps i p → n ≡ (state_of p).hut → (get_or (map state_of ps) i (fresh 0)).hut ≡ n
-hut-at ps i n p within is told = ap (λ (s : State). s.hut) (state_at ps i p within is) ∙ sym told
 
 -- the first n huts, as replicas that have no entry
 fresh_at : (hs : List ℕ) (n i : ℕ) → n ≤ length hs → i < n → (get_or (map fresh (take n hs)) i (fresh 0)).hut ≡ get_or hs i 0

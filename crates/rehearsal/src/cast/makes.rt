@@ -45,10 +45,9 @@ fn join(heap: Global, replicas: &[Replica], hut: u64) -> Result<Replica, Fault>
     if hut > 15 {
         return Err(Fault::Refused(Refusal::OutOfRange));
     }
-    // Refused where there is one: `ok_or` refuses where there is none.
-    let None = place_of(replicas, hut) else {
+    if place_of(replicas, hut).is_some() {
         return Err(Fault::Refused(Refusal::OutOfRange));
-    };
+    }
     // Less than 16: `try_from` would add an error that cannot come.
     Replica::new(heap, hut as u8)
 }
