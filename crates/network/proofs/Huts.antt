@@ -1,5 +1,5 @@
 -- The huts of a rehearsal, one after another.
-use Rattle.std.proofs.Common.{◌≡◌, ◌≢◌, ℕ, zero, suc, ◌+◌, ◌<◌, ◌≤◌, List, [], ◌∷◌, ◌++◌, map, length, get_or, take, Option, Some, None, MatchOption, vec_items, vec_capacity, ⊎_elim, sym, ap, subst, ◌∙◌, arith}
+use Rattle.std.proofs.Common.{◌≡◌, ◌≢◌, ℕ, ◌+◌, ◌<◌, ◌≤◌, List, [], ◌∷◌, ◌++◌, map, length, get_or, take, Option, Some, None, MatchOption, vec_items, vec_capacity, ⊎_elim, sym, ap, subst, ◌∙◌, arith}
 use Rattle.std.specs.List.{AllWithin, HoldsAt}
 use Rattle.std.proofs.lemmas.Bool.{cases_eq, cases_lt}
 use Rattle.std.proofs.lemmas.List.{get_or-map, get_or-take, get_or_append_left, get_or_push, length-map, length-take-le, map_push, take_all, take_more}
@@ -11,7 +11,7 @@ use Rattle.journal.specs.declared.opened.NotOpened.{NotOpened}
 use Rattle.journal.specs.declared.opened.NotOpened.TheVariants.{Memory, Refused, Failed}
 use Rattle.network.specs.Casts.{Absent, CastOk}
 use Rattle.network.specs.Net.{run}
-use Rattle.network.specs.Stages.{Hut, bytes_sent, hut_at, huts_of, state_at}
+use Rattle.network.specs.Stages.{Hut, bytes_sent, hut_at, huts_of}
 use Rattle.network.specs.Stands.{Stands}
 use Rattle.network.specs.declared.stage.Stage.{Stage}
 use Rattle.network.proofs.Stages.{at_view}

@@ -1,5 +1,5 @@
 -- One replica of a stage goes on, and the others stay in step with what is kept of their huts.
-use Rattle.std.proofs.Common.{◌≡◌, ◌≢◌, ℕ, zero, suc, ◌<◌, ◌≤◌, List, [], ◌∷◌, map, length, get_or, set, vec_items, cond, eqb, Option, Some, None, Result, Ok, Err, MatchOption, MatchResult, vec_capacity, sym, refl, ap, subst, ◌∙◌, ◌⊎◌, inl, inr, arith}
+use Rattle.std.proofs.Common.{◌≡◌, ◌≢◌, ℕ, zero, suc, ◌<◌, ◌≤◌, List, [], ◌∷◌, map, length, get_or, set, vec_items, cond, Option, Some, None, Result, MatchOption, MatchResult, vec_capacity, sym, refl, ap, subst, ◌∙◌, ◌⊎◌, inl, inr, arith}
 use Rattle.std.proofs.lemmas.Bool.{cases_eq, eq-eqb, ne_eqb}
 use Rattle.std.proofs.lemmas.Grind.{get_or-set_at}
 use Rattle.std.proofs.lemmas.Result.{err_from_is_err_and}
@@ -9,14 +9,13 @@ use Rattle.std.specs.Result.{IsErrAnd}
 use Rattle.std.proofs.lemmas.List.{get_or-map, get_or-set_other, map-set, length-map, length-set}
 use Rattle.bookings.specs.Plain.{PlainEntry, PlainKind}
 use Rattle.bookings.specs.declared.entry.Mark.{Mark}
-use Rattle.bookings.specs.declared.refusal.Refusal.{Refusal}
 use Rattle.entry_log.specs.Logs.{first_entry}
 use Rattle.journal.specs.History.{Kept, Tentative, commits, commits_entry, makes, state_in, synced, wrote}
 use Rattle.journal.specs.Keeping.{InStep, InMemory, Moves, state_by, most_bytes}
 use Rattle.journal.specs.declared.trouble.Trouble.{Trouble}
 use Rattle.journal.specs.declared.trouble.Trouble.TheVariants.{Refused, Failed}
 use Rattle.replica.specs.Model.{State, entry_made, fresh, is_primary, make_refusal}
-use Rattle.network.specs.Net.{huts, put}
+use Rattle.network.specs.Net.{put}
 use Rattle.letters.specs.Items.{items_of}
 use Rattle.letters.specs.Letters.{read_letter}
 use Rattle.network.specs.Taking.{take_bytes}

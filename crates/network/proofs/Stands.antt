@@ -1,5 +1,5 @@
 -- What a stage does is what the events of the model do, so that it still stands.
-use Rattle.std.proofs.Common.{◌≡◌, ℕ, zero, suc, ◌<◌, ◌≤◌, ◌==◌, ◌⊎◌, true, cond, nat_lt, take, Result, Ok, Err, MatchResult, List, [], ◌∷◌, ◌++◌, map, length, get_or, vec_items, vec_len, ltb, ⊎_elim, append-nil, length-append, lt→ltb, sym, refl, ap, subst, ◌∙◌, inl, inr, arith}
+use Rattle.std.proofs.Common.{◌≡◌, ℕ, zero, suc, ◌<◌, ◌==◌, ◌⊎◌, cond, take, Result, Ok, Err, MatchResult, List, [], ◌∷◌, ◌++◌, map, length, get_or, vec_items, vec_len, ltb, ⊎_elim, append-nil, length-append, lt→ltb, sym, refl, ap, subst, ◌∙◌, inl, inr, arith}
 use Rattle.std.specs.Global.{Vec}
 use Rattle.std.proofs.lemmas.Bool.{cases_lt, ne_eqb}
 use Rattle.std.proofs.lemmas.List.{length-map, get_or-map, get_or_append_left, get_or_push, take_all}
@@ -15,7 +15,7 @@ use Rattle.replica.specs.Model.{State, fresh}
 use Rattle.replica.specs.declared.summary.Summary.{Summary}
 use Rattle.replica.specs.Parcels.{parcel_for}
 use Rattle.network.specs.Items.{Letter, items_taken, words_for}
-use Rattle.network.specs.Net.{Event, Makes, Commits, Syncs, Writes, Takes, Damaged, Crashes, Net, after, among, huts, put, run, send, step, take_nth, with_hut}
+use Rattle.network.specs.Net.{Event, Makes, Commits, Syncs, Writes, Takes, Damaged, Crashes, Net, after, among, huts, put, send, step, take_nth, with_hut}
 use Rattle.network.specs.Stages.{Follows, Hut, Turns, Unmoved, state_at, hut_at, huts_of, bytes_for, bytes_sent}
 use Rattle.network.specs.Stands.{Comes, Means, Stands, Went}
 use Rattle.network.specs.Taking.{letter_for, take_bytes}

@@ -5,7 +5,7 @@ use Rattle.letters.specs.Items.{waiting, placed_from}
 use Rattle.letters.specs.Laws.{LetterOk}
 use Rattle.letters.specs.Letters.{PlainLetter, encode_letter}
 use Rattle.network.specs.Items.{Letter}
-use Rattle.network.specs.Net.{Event, Makes, Commits, Syncs, Writes, Takes, Damaged, Crashes, Visits, after}
+use Rattle.network.specs.Net.{Event, Makes, Commits, Syncs, Writes, Takes, Damaged, Crashes, after}
 use Rattle.std.specs.declared.result.Result.{Result}
 use Rattle.network.specs.Stages.{Follows, hut_at, huts_of, bytes_sent}
 use Rattle.network.specs.declared.act.Act.{Act}

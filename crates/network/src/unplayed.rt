@@ -24,16 +24,16 @@ pub enum Unplayed {
 impl From<Refusal> for Unplayed {
     ghost from_gives = { λ why e. e ≡ Refused why };
 
-    fn from(why: Refusal) -> Unplayed {
-        Unplayed::Refused(why)
+    fn from(refusal: Refusal) -> Unplayed {
+        Unplayed::Refused(refusal)
     }
 }
 
 impl From<Fault> for Unplayed {
     ghost from_gives = { λ why e. e ≡ Failed why };
 
-    fn from(why: Fault) -> Unplayed {
-        Unplayed::Failed(why)
+    fn from(fault: Fault) -> Unplayed {
+        Unplayed::Failed(fault)
     }
 }
 

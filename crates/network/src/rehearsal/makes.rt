@@ -45,10 +45,9 @@ fn join(
     if hut > 15 {
         return Err(NotOpened::Refused(Refusal::OutOfRange));
     }
-    // Refused where there is one: `ok_or` refuses where there is none.
-    let None = place_of(keepers, hut) else {
+    if place_of(keepers, hut).is_some() {
         return Err(NotOpened::Refused(Refusal::OutOfRange));
-    };
+    }
     let memory = Memory::new(heap, JOURNAL_ROOM)?;
     // Less than 16: `try_from` would add an error that cannot come.
     Ok(Keeper::open(heap, hut as u8, memory, &[])?.keeper)

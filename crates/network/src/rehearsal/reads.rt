@@ -6,7 +6,7 @@ ghost use Rattle.replica.specs.Views.{state_of};
 
 use super::Rehearsal;
 use super::makes::place_of;
-use crate::report::Report;
+use crate::outcome::Outcome;
 use replica::replica::Replica;
 
 impl Rehearsal {
@@ -31,10 +31,17 @@ impl Rehearsal {
         Some(self.stage.letters.get(letter)?.as_slice())
     }
 
-    // What came of the entries of the letter that came last.
-    pub fn report(&self) -> &Report
-        ensures { result.now ≡ self.now.stage.report }
+    // What came of the entries of the letter that came last, in its order.
+    pub fn outcomes(&self) -> &[Outcome]
+        ensures { result.now ≡ self.now.stage.report.outcomes.items }
     {
-        &self.stage.report
+        self.stage.report.outcomes()
+    }
+
+    // How many of its entries were kept out; nothing where it was damaged, and kept out whole.
+    pub fn rejected(&self) -> Option<usize>
+        ensures { result ≡ self.now.stage.report.rejected }
+    {
+        self.stage.report.rejected
     }
 }

@@ -1,4 +1,4 @@
-use Rattle.std.proofs.Common.{◌≡◌, ◌<◌, ◌≤◌, ℕ, List, [], get_or, length, map, take, vec_capacity, vec_items, refl, sym, ap, subst, ◌∙◌, arith, rules, below_more}
+use Rattle.std.proofs.Common.{◌<◌, ◌≤◌, get_or, length, map, vec_capacity, vec_items, refl, sym, ap, subst, ◌∙◌, arith, rules, below_more}
 use Rattle.std.proofs.lemmas.List.{take_all}
 use Rattle.std.proofs.lemmas.Result.{err_from_is_err_and}
 use Rattle.journal.specs.History.{empty}

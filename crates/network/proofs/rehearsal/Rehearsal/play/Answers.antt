@@ -1,4 +1,3 @@
-use Rattle.std.proofs.Common.{rules}
 use Rattle.network.proofs.Reached.{reached_promises, went_reached, went_followed, unfailing}
 use Rattle.network.proofs.rehearsal.Rehearsal.play.Goals as goal
 
