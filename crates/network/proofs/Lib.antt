@@ -8,6 +8,7 @@ pub mod Guests
 pub mod Handed
 pub mod Histories
 pub mod Holds
+pub mod Huts
 pub mod Knowing
 pub mod Lacking
 mod Lettered
@@ -23,6 +24,7 @@ pub mod Numbers
 pub mod Parts
 pub mod Promises
 pub mod Putting
+pub mod Reached
 pub mod Refusals
 pub mod Room
 pub mod Safety
@@ -31,6 +33,8 @@ pub mod Sending
 pub mod Settle
 pub mod Sorting
 pub mod Spread
+pub mod Stages
+pub mod Stands
 pub mod Steps
 pub mod Taken
 pub mod Taking

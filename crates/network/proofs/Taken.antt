@@ -14,7 +14,7 @@ use Rattle.network.proofs.Parts.{Older, older_one, older_self, older_trans}
 use Rattle.network.proofs.Refusals.{unless_by}
 
 -- an item is taken or left
-takes_by : (Q : Kept → Type 0) (w : PlainItem) (k : Kept) → Q (wrote (record_of w) k) → Q k → Q (takes w k)
+pub takes_by : (Q : Kept → Type 0) (w : PlainItem) (k : Kept) → Q (wrote (record_of w) k) → Q k → Q (takes w k)
 takes_by Q (settled p e) k a b = unless_by Q (take_committed_refusal p e.mark (state_in k)) k (wrote (Committed e) k) (λ _. a) b
 takes_by Q (waiting w) k a b = unless_by Q (take_tentative_refusal w.entry w.stood (state_in k)) k (wrote (Tentative w.entry) k) (λ _. a) b
 

@@ -1,6 +1,11 @@
+pub mod Acts
+pub mod Casts
 pub mod Items
 pub mod Net
 pub mod Promise
 pub mod Promised
+pub mod Reached
 pub mod Replicas
+pub mod Stages
+pub mod Stands
 pub mod Taking

@@ -1,0 +1,19 @@
+use Rattle.network.proofs.Reached.{reached_promises, went_reached, went_followed, unfailing}
+use Rattle.network.proofs.rehearsal.Rehearsal.play.Goals as goal
+
+pub returns-then-at-len-clause-promised : goal.returns-then-at-len-clause-promised
+returns-then-at-len-clause-promised c = λ honest. reached_promises c.args.self.now.stage (c.args.self.now.reached honest)
+
+pub invariant_of-self : goal.invariant_of-self
+invariant_of-self c =
+    record {
+      followed = went_followed c.args.self.now.stage c.act.new.self c.act.ensures.follows c.args.self.now.followed;
+      reached = λ honest. went_reached c.args.self.now.stage c.act.new.self c.args.at c.args.act.now c.act.result c.act.ensures.steps (c.args.self.now.reached honest);
+    }
+
+pub returns-clause-answer : goal.returns-clause-answer
+returns-clause-answer c = λ within. unfailing c.args.self.now.stage _ _ _ c.act.result c.args.self.now.followed c.act.ensures.answer
+
+pub returns-clause-promised : goal.returns-clause-promised
+returns-clause-promised c = λ honest.
+    reached_promises c.act.new.self (went_reached c.args.self.now.stage c.act.new.self c.args.at c.args.act.now c.act.result c.act.ensures.steps (c.args.self.now.reached honest))

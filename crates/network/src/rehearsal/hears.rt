@@ -1,0 +1,39 @@
+// Bytes come from elsewhere.
+ghost use Rattle.std.specs.Prelude.{◌≡◌, ℕ, ◌<◌, ◌≤◌, [], Bool, true, false, Err, get_or, is_ok, vec_len, MatchResult};
+ghost use Rattle.bookings.specs.declared.refusal.Refusal.TheVariants.{OutOfRange};
+ghost use Rattle.journal.specs.History.{Kept};
+ghost use Rattle.letters.specs.Letters.{damaged, read_letter};
+ghost use Rattle.network.specs.Net.{put};
+ghost use Rattle.network.specs.Reached.{Promises};
+ghost use Rattle.network.specs.Stages.{Follows, hut_at, huts_of};
+ghost use Rattle.network.specs.Taking.{Reports, take_bytes};
+ghost use Rattle.network.specs.declared.act.Done.TheVariants.{Taken};
+ghost use Rattle.network.specs.declared.unplayed.Unplayed.TheVariants.{Memory, Refused, Failed};
+
+use super::Rehearsal;
+use crate::act::Done;
+use crate::unplayed::Unplayed;
+use bookings::refusal::Refusal;
+
+impl Rehearsal {
+    // Any bytes come to the replica at a place; refused where there is none (2). A letter that none of the huts wrote is beyond what is promised.
+    pub fn hear(&mut self, at: usize, bytes: &[u8]) -> Result<Done, Unplayed>
+        ensures absent { vec_len self.old.stage.keepers ≤ at → (result ≡ Err (Refused OutOfRange)) × (self.new.stage ≡ self.old.stage) }
+        ensures answer { at < vec_len self.old.stage.keepers → MatchResult result (λ d. d ≡ Taken) (λ e. elim e [ Memory ↦ ⊥ | Refused w ↦ ⊥ | Failed f ↦ ⊥ ]) }
+        ensures taken { (kept : ℕ → Kept) → at < vec_len self.old.stage.keepers → Follows (huts_of self.old.stage) kept
+            → Follows (huts_of self.new.stage) (put (hut_at (huts_of self.old.stage) at) (take_bytes bytes.now (kept (hut_at (huts_of self.old.stage) at))) kept)
+            × Reports self.new.stage.report (read_letter bytes.now) (kept (hut_at (huts_of self.old.stage) at)) }
+        ensures letters { self.new.stage.letters ≡ self.old.stage.letters }
+        ensures many { vec_len self.new.stage.keepers ≡ vec_len self.old.stage.keepers }
+        ensures honest { self.old.forged ≡ false → read_letter bytes.now ≡ damaged → self.new.forged ≡ false }
+        ensures promised { self.new.forged ≡ false → Promises self.new.stage }
+    {
+        if at >= self.stage.keepers.len() {
+            return Err(Unplayed::Refused(Refusal::OutOfRange));
+        }
+        let written = self.stage.find(bytes).is_some();
+        let done = self.stage.hear(at, bytes)?;
+        self.forged |= !(written | self.stage.report.is_damaged());
+        Ok(done)
+    }
+}

@@ -1,0 +1,37 @@
+// An act is played.
+ghost use Rattle.std.specs.Prelude.{◌≡◌, ◌<◌, ◌≤◌, Bool, true, false, Err, List, get_or, vec_len, MatchResult};
+ghost use Rattle.journal.specs.Phases.{is_synced};
+ghost use Rattle.network.specs.Acts.{Told, Denied, writes};
+ghost use Rattle.network.specs.Net.{Event};
+ghost use Rattle.network.specs.Reached.{Promises};
+ghost use Rattle.network.specs.Stages.{Hut, huts_of};
+ghost use Rattle.network.specs.Stands.{Stands, Went};
+ghost use Rattle.network.specs.declared.act.Act.TheVariants as acts;
+ghost use Rattle.network.specs.declared.unplayed.Unplayed.TheVariants.{Memory, Refused, Failed};
+ghost use Rattle.bookings.specs.declared.refusal.Refusal.TheVariants.{OutOfRange};
+
+use super::Rehearsal;
+use crate::act::{Act, Done};
+use crate::unplayed::Unplayed;
+use bookings::refusal::Refusal;
+use std::alloc::Global;
+
+impl Rehearsal {
+    // The replica at a place does what it is told; refused where there is none (2).
+    pub fn play(&mut self, heap: Global, at: usize, act: &Act) -> Result<Done, Unplayed>
+        ensures absent { vec_len self.old.stage.keepers ≤ at → (result ≡ Err (Refused OutOfRange)) × (self.new.stage ≡ self.old.stage) }
+        ensures answer { at < vec_len self.old.stage.keepers → MatchResult result
+            (Told (huts_of self.old.stage) at (vec_len self.old.stage.letters) act.now)
+            (λ e. elim e [ Memory ↦ writes act.now ≡ true | Refused w ↦ Denied (huts_of self.old.stage) at (vec_len self.old.stage.letters) act.now w | Failed f ↦ ⊥ ]) }
+        ensures steps { (es : List Event) → at < vec_len self.old.stage.keepers → Stands self.old.stage es → Went self.old.stage self.new.stage at act.now result es }
+        ensures many { vec_len self.new.stage.keepers ≡ vec_len self.old.stage.keepers }
+        ensures clean { act.now ≡ acts.Sync → MatchResult result (λ _. (q : Hut) → is_synced (get_or (huts_of self.new.stage) at q).journal.phase ≡ true) (λ _. Unit {0}) }
+        ensures forged { self.new.forged ≡ self.old.forged }
+        ensures promised { self.new.forged ≡ false → Promises self.new.stage }
+    {
+        if at >= self.stage.keepers.len() {
+            return Err(Unplayed::Refused(Refusal::OutOfRange));
+        }
+        self.stage.act(heap, at, act)
+    }
+}

@@ -1,0 +1,39 @@
+// Whatever the replica at a place is told.
+ghost use Rattle.std.specs.Prelude.{◌≡◌, ℕ, ◌<◌, true, List, get_or, vec_len, MatchResult};
+ghost use Rattle.journal.specs.History.{Kept};
+ghost use Rattle.journal.specs.Phases.{is_synced};
+ghost use Rattle.network.specs.Acts.{Told, Denied, writes};
+ghost use Rattle.network.specs.Net.{Event};
+ghost use Rattle.network.specs.Stages.{Follows, Hut, Never, huts_of};
+ghost use Rattle.network.specs.Stands.{Stands, Went};
+ghost use Rattle.network.specs.declared.act.Act.TheVariants as acts;
+ghost use Rattle.network.specs.declared.unplayed.Unplayed.TheVariants.{Memory, Refused, Failed};
+
+use super::Stage;
+use crate::act::{Act, Done};
+use crate::unplayed::Unplayed;
+use std::alloc::Global;
+
+impl Stage {
+    pub(crate) fn act(&mut self, heap: Global, at: usize, act: &Act) -> Result<Done, Unplayed>
+        requires { at < vec_len self.old.keepers }
+        ensures answer { MatchResult result
+            (Told (huts_of self.old) at (vec_len self.old.letters) act.now)
+            (λ e. elim e [ Memory ↦ writes act.now ≡ true | Refused w ↦ Denied (huts_of self.old) at (vec_len self.old.letters) act.now w | Failed f ↦ Never (huts_of self.old) ]) }
+        ensures follows { (kept : ℕ → Kept) → Follows (huts_of self.old) kept → (now : ℕ → Kept) × Follows (huts_of self.new) now }
+        ensures many { vec_len self.new.keepers ≡ vec_len self.old.keepers }
+        ensures clean { act.now ≡ acts.Sync → MatchResult result (λ _. (q : Hut) → is_synced (get_or (huts_of self.new) at q).journal.phase ≡ true) (λ _. Unit {0}) }
+        ensures steps { (es : List Event) → Stands self.old es → Went self.old self.new at act.now result es }
+    {
+        match act {
+            Act::Make(kind) => self.make(at, *kind),
+            Act::Commit => self.commit(at),
+            Act::Sync => self.sync(at),
+            Act::Write(has) => self.write(heap, at, has),
+            Act::Take { letter } => self.take(at, *letter, None),
+            Act::Cut { letter, length } => self.take(at, *letter, Some(*length)),
+            Act::Crash { left } => Ok(self.crash(at, *left)),
+            Act::Visit(slip) => self.visit(at, *slip),
+        }
+    }
+}
