@@ -8,7 +8,7 @@ use journal::memory::Memory;
 use replica::parcel::Parcel;
 
 mod acts;
-mod letters;
+mod exchanges;
 mod plays;
 
 #[derive(Drop)]
