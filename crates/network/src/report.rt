@@ -1,5 +1,5 @@
 // What came of a letter: room for all that one can hold, reserved once.
-ghost use Rattle.std.specs.Prelude.{◌≡◌, ◌≤◌, [], not, IfOk, vec_capacity};
+ghost use Rattle.std.specs.Prelude.{◌≡◌, ◌≤◌, [], not, Some, IfOk, vec_capacity};
 ghost use Rattle.std.specs.Option.{is_some, unwrap_or};
 
 use crate::outcome::Outcome;
@@ -15,7 +15,7 @@ pub struct Report {
 
 impl Report {
     pub fn new(heap: Global) -> Result<Report, AllocError>
-        ensures { IfOk result (λ p. p.outcomes.items ≡ []) }
+        ensures { IfOk result (λ p. (p.outcomes.items ≡ []) × (p.rejected ≡ Some 0)) }
     {
         let outcomes = Vec::with_capacity(heap, 1024)?;
         Ok(Report {
