@@ -66,6 +66,15 @@ module _ (s t : Stage) (i : ℕ) (bs : List ℕ) (found rejected : Option ℕ) (
       either true = refl
       either false = refl
 
+  pub stays_written :
+      MatchOption found (Unwritten (bytes_sent s) bs) (λ l. (l < length (bytes_sent s)) × (get_or (bytes_sent s) l [] ≡ bs)) → forged ≡ false
+      → (Unwritten (bytes_sent s) bs → ⊥) → (forged || not (written || is_none)) ≡ false
+  stays_written where-found honest known = rw (honest, written-is ∙ found_some found where-found) refl
+    where
+      found_some : (r : Option ℕ) → MatchOption r (Unwritten (bytes_sent s) bs) (λ l. (l < length (bytes_sent s)) × (get_or (bytes_sent s) l [] ≡ bs)) → is_some r ≡ true
+      found_some None none = absurd (known none)
+      found_some (Some l) there = refl
+
   pub heard_reached :
       i < length (huts_of s) → bytes_sent t ≡ bytes_sent s → Turns (huts_of s) (huts_of t) i (take_bytes bs)
       → MatchOption found (Unwritten (bytes_sent s) bs) (λ l. (l < length (bytes_sent s)) × (get_or (bytes_sent s) l [] ≡ bs))

@@ -5,7 +5,7 @@ ghost use Rattle.journal.specs.History.{Kept};
 ghost use Rattle.letters.specs.Letters.{damaged, read_letter};
 ghost use Rattle.network.specs.Net.{put};
 ghost use Rattle.network.specs.Reached.{Promises};
-ghost use Rattle.network.specs.Stages.{Follows, hut_at, huts_of};
+ghost use Rattle.network.specs.Stages.{Follows, Unwritten, bytes_sent, hut_at, huts_of};
 ghost use Rattle.network.specs.Taking.{Reports, take_bytes};
 ghost use Rattle.network.specs.declared.act.Done.TheVariants.{Taken};
 ghost use Rattle.network.specs.declared.unplayed.Unplayed.TheVariants.{Memory, Refused, Failed};
@@ -26,6 +26,7 @@ impl Rehearsal {
         ensures letters { self.new.stage.letters ≡ self.old.stage.letters }
         ensures many { vec_len self.new.stage.keepers ≡ vec_len self.old.stage.keepers }
         ensures honest { self.old.forged ≡ false → read_letter bytes.now ≡ damaged → self.new.forged ≡ false }
+        ensures written { self.old.forged ≡ false → (Unwritten (bytes_sent self.old.stage) bytes.now → ⊥) → self.new.forged ≡ false }
         ensures promised { self.new.forged ≡ false → Promises self.new.stage }
     {
         if at >= self.stage.keepers.len() {

@@ -1,5 +1,5 @@
 use Rattle.std.proofs.Common.{rules}
-use Rattle.network.proofs.Reached.{heard_reached, reached_promises, stays_honest, went_followed}
+use Rattle.network.proofs.Reached.{heard_reached, reached_promises, stays_honest, stays_written, went_followed}
 use Rattle.network.proofs.Stands.{same_letters}
 use Rattle.network.proofs.rehearsal.Rehearsal.hear.Goals as goal
 
@@ -10,6 +10,11 @@ pub returns-clause-honest : goal.returns-clause-honest
 returns-clause-honest c =
     stays_honest c.args.self.now.stage c.hear.new.self c.args.at c.args.bytes.now c.find.result c.hear.new.self.report.rejected c.args.self.now.forged c.is_some-written.result c.is_damaged.result
     c.is_some-written.ensures c.is_damaged.ensures (λ kept follows. (c.in_ok-done.ensures.report kept follows).0) c.args.self.now.followed
+
+pub returns-clause-written : goal.returns-clause-written
+returns-clause-written c =
+    stays_written c.args.self.now.stage c.hear.new.self c.args.at c.args.bytes.now c.find.result c.hear.new.self.report.rejected c.args.self.now.forged c.is_some-written.result c.is_damaged.result
+    c.is_some-written.ensures c.is_damaged.ensures (λ kept follows. (c.in_ok-done.ensures.report kept follows).0) c.args.self.now.followed c.find.ensures
 
 pub invariant_of-self-3 : goal.invariant_of-self-3
 invariant_of-self-3 c =
