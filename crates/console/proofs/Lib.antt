@@ -5,6 +5,7 @@ pub mod HexBack
 pub mod HexOn
 pub mod HexPairs
 pub mod HexText
+pub mod HutBack
 pub mod InRange
 pub mod Languages
 pub mod NumbersOn

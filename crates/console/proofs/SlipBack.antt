@@ -24,7 +24,7 @@ name_says Add ws = refl
 name_says Help ws = refl
 
 says : (v : SlipVerb) (ns : List ℕ) → length ns ≤ 18 → Each TenDigits ns → slip_parsed (slip_written v ns) ≡ in_form_in slip_lines v (slip_by v ns)
-says v ns few all = written_says slip_lines (slip_name_of v) v ns (name_then v) (name_says v) few all
+says v ns few all = written_says slip_lines (by_words_in slip_lines) (slip_name_of v) v ns (name_then v) (name_says v) few all
 
 pub slip_lines_read_back : (s : SlipSaid) → SlipSayable s → slip_parsed (slip_line_of s) ≡ Ok s
 slip_lines_read_back pass h = refl

@@ -18,6 +18,7 @@ use Rattle.console.specs.declared.answer.Standing.{Standing}
 use Rattle.console.specs.declared.answer.Standing.TheVariants as standings
 use Rattle.console.specs.declared.command.Expected.{Expected}
 use Rattle.console.specs.declared.command.Expected.TheVariants as expected
+use Rattle.console.specs.LetterAnswers.{carried_text, taking_text, opened_text, usage_text}
 use Rattle.console.specs.declared.verb.Verb.{Verb}
 use Rattle.console.specs.declared.verb.Verb.TheVariants as verbs
 
@@ -68,10 +69,19 @@ form_text verbs.Show = codes "show, or show H N"
 form_text verbs.Line = codes "line"
 form_text verbs.Got = codes "got S H"
 form_text verbs.Serve = codes "serve S0 .. S15"
+form_text verbs.Letter = codes "letter C S0 .. S15"
+form_text verbs.Walk = codes "walk I J"
+form_text verbs.Lose = codes "lose I J"
+form_text verbs.Again = codes "again K J"
+form_text verbs.Cut = codes "cut K J N"
+form_text verbs.Stop = codes "stop I N"
+form_text verbs.Help = codes "help"
 
 abbrev pub expected_text : Expected → List ℕ
-expected_text expected.Command = codes "expected a command: huts, at, book, cancel, change, beds, ink, have, show, line, got or serve"
+expected_text expected.Command = codes "expected a command: huts, at, book, cancel, change, beds, ink, have, letter, take, show, line, got, serve, walk, lose, again, cut, stop or help"
+expected_text expected.HutCommand = codes "expected a command: book, cancel, change, beds, ink, have, letter, take, show, line, got, serve or help"
 expected_text (expected.Form v) = codes "expected: " ++ form_text v
+expected_text expected.Take = codes "expected: take HEX"
 expected_text expected.HutsFirst = codes "expected huts first"
 expected_text expected.HutsOnce = codes "expected huts only once"
 
@@ -96,4 +106,8 @@ answer_text (answers.Logged p m t k) = decimal p ++ (codes ": " ++ (raw_mark_tex
 answer_text answers.EndOfLog = codes "end of line"
 answer_text (answers.Got m t g) = raw_mark_text m ++ (codes " " ++ (standing_text t ++ (codes ": " ++ got_text g)))
 answer_text (answers.Served v) = codes "served " ++ vector_text v.stamps
+answer_text (answers.Letter c) = carried_text c
+answer_text (answers.Take t) = taking_text t
+answer_text (answers.Opened o) = opened_text o
+answer_text (answers.Usage u) = usage_text u
 answer_text (answers.Error e) = codes "error: " ++ expected_text e

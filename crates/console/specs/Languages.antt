@@ -57,11 +57,11 @@ abbrev pub written_by : List ℕ → List ℕ → List ℕ
 written_by name ns = name ++ spaced (map decimal ns)
 
 -- one space more, between words, in front or behind, changes nothing
-abbrev pub SpacesDoNotMatterIn : {V S E : Type 0} → Language V S E → Type 0
-SpacesDoNotMatterIn l =
-    ((a b : List ℕ) → parsed_in l (a ++ space ∷ space ∷ b) ≡ parsed_in l (a ++ space ∷ b)) × ((a : List ℕ) → parsed_in l (space ∷ a) ≡ parsed_in l a)
-    × ((a : List ℕ) → parsed_in l (a ++ space ∷ []) ≡ parsed_in l a)
+abbrev pub SpacesDoNotMatterIn : {R : Type 0} → (List ℕ → R) → Type 0
+SpacesDoNotMatterIn reads =
+    ((a b : List ℕ) → reads (a ++ space ∷ space ∷ b) ≡ reads (a ++ space ∷ b)) × ((a : List ℕ) → reads (space ∷ a) ≡ reads a)
+    × ((a : List ℕ) → reads (a ++ space ∷ []) ≡ reads a)
 
 -- 35 is '#'
-abbrev pub CommentsSayNothingIn : {V S E : Type 0} → Language V S E → Type 0
-CommentsSayNothingIn l = (text : List ℕ) → parsed_in l (35 ∷ text) ≡ Ok l.pass
+abbrev pub CommentsSayNothingIn : {S E : Type 0} → (List ℕ → Result S E) → S → Type 0
+CommentsSayNothingIn reads s = (text : List ℕ) → reads (35 ∷ text) ≡ Ok s

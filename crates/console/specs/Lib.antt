@@ -3,6 +3,7 @@ pub mod Checks
 pub mod Commands
 pub mod Digits
 pub mod Hexes
+pub mod HutLines
 pub mod Languages
 pub mod LetterAnswers
 pub mod Lines

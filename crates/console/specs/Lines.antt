@@ -1,12 +1,14 @@
 -- The line that a command is written as, and laws of reading lines.
-use Rattle.std.specs.Prelude.{◌≡◌, ℕ, ◌<◌, ◌≤◌, List, [], ◌∷◌, length}
+use Rattle.std.specs.Prelude.{◌≡◌, ℕ, ◌<◌, ◌≤◌, List, [], ◌∷◌, ◌++◌, length}
 use Rattle.bookings.specs.Plain.{PlainChoice, PlainKind, book, cancel, change, supply}
 use Rattle.bookings.specs.Ranges.{Each}
 use Rattle.console.specs.declared.verb.Verb.{Verb}
-use Rattle.console.specs.declared.verb.Verb.TheVariants.{Huts, At, Book, Cancel, Change, Beds, Ink, Have, Show, Line, Got, Serve}
-use Rattle.console.specs.Commands.{Said, pass, huts, at, make, ink, have, show_night, show, log, got, serve, hut_lines}
+use Rattle.console.specs.declared.verb.Verb.TheVariants.{Huts, At, Book, Cancel, Change, Beds, Ink, Have, Show, Line, Got, Serve, Letter, Walk, Lose, Again, Cut, Stop, Help}
+use Rattle.console.specs.Commands.{Said, pass, huts, at, make, ink, have, show_night, show, log, got, serve, letter, taken, walk, lose, again, cut, stop, help, take_name, parsed}
+use Rattle.console.specs.Hexes.{IsByte, hex_text}
 use Rattle.console.specs.Languages.{written_by, SpacesDoNotMatterIn, CommentsSayNothingIn}
 use Rattle.console.specs.Verbs.{name_of}
+use Rattle.console.specs.Words.{spaced}
 
 -- a verb and numbers, with single spaces between them
 abbrev pub written : Verb → List ℕ → List ℕ
@@ -34,6 +36,14 @@ line_of show = written Show []
 line_of log = written Line []
 line_of (got m) = written Got (m.stamp ∷ m.hut ∷ [])
 line_of (serve ns) = written Serve ns
+line_of (letter c ns) = written Letter (c ∷ ns)
+line_of (taken bytes) = take_name ++ spaced (hex_text bytes ∷ [])
+line_of (walk i j) = written Walk (i ∷ j ∷ [])
+line_of (lose i j) = written Lose (i ∷ j ∷ [])
+line_of (again k j) = written Again (k ∷ j ∷ [])
+line_of (cut k j n) = written Cut (k ∷ j ∷ n ∷ [])
+line_of (stop i n) = written Stop (i ∷ n ∷ [])
+line_of help = written Help []
 
 -- ten digits write it
 abbrev pub TenDigits : ℕ → Type 0
@@ -57,11 +67,19 @@ Sayable show = Unit {0}
 Sayable log = Unit {0}
 Sayable (got m) = TenDigits m.stamp × TenDigits m.hut
 Sayable (serve ns) = Each TenDigits ns × (length ns ≡ 16)
+Sayable (letter c ns) = Each TenDigits (c ∷ ns) × (length ns ≡ 16)
+Sayable (taken bytes) = Each IsByte bytes × (0 < length bytes)
+Sayable (walk i j) = TenDigits i × TenDigits j
+Sayable (lose i j) = TenDigits i × TenDigits j
+Sayable (again k j) = TenDigits k × TenDigits j
+Sayable (cut k j n) = TenDigits k × TenDigits j × TenDigits n
+Sayable (stop i n) = TenDigits i × TenDigits n
+Sayable help = Unit {0}
 
 -- one space more, between words, in front or behind, changes nothing
 abbrev pub SpacesDoNotMatter : Type 0
-SpacesDoNotMatter = SpacesDoNotMatterIn hut_lines
+SpacesDoNotMatter = SpacesDoNotMatterIn parsed
 
 -- 35 is '#'
 abbrev pub CommentsSayNothing : Type 0
-CommentsSayNothing = CommentsSayNothingIn hut_lines
+CommentsSayNothing = CommentsSayNothingIn parsed pass

@@ -78,8 +78,8 @@ SlipSayable help = Unit {0}
 
 -- one space more, between words, in front or behind, changes nothing
 abbrev pub SlipSpacesDoNotMatter : Type 0
-SlipSpacesDoNotMatter = SpacesDoNotMatterIn slip_lines
+SlipSpacesDoNotMatter = SpacesDoNotMatterIn slip_parsed
 
 -- 35 is '#'
 abbrev pub SlipCommentsSayNothing : Type 0
-SlipCommentsSayNothing = CommentsSayNothingIn slip_lines
+SlipCommentsSayNothing = CommentsSayNothingIn slip_parsed pass

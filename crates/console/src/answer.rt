@@ -1,4 +1,6 @@
 // What a program answers: one line each.
+use self::letters::{Carried, Taking};
+use self::starts::{Opened, Usage};
 use crate::command::Expected;
 use crate::mark::RawMark;
 use bookings::refusal::Refusal;
@@ -56,6 +58,22 @@ pub enum Answer {
     // A guest was served, who has that slip now.
     Served {
         slip: Vector,
+    },
+    // A letter was written, and came or was lost.
+    Letter {
+        carried: Carried,
+    },
+    // What comes of a letter that is taken, a line for each entry, and the counts.
+    Take {
+        taking: Taking,
+    },
+    // A replica was opened.
+    Opened {
+        opened: Opened,
+    },
+    // How lines are written.
+    Usage {
+        usage: Usage,
     },
     Error {
         expected: Expected,

@@ -1,4 +1,5 @@
 // What a line asks for.
+use crate::hex::Hex;
 use crate::mark::RawMark;
 use crate::numbers::Numbers;
 use crate::request::Request;
@@ -28,14 +29,39 @@ pub enum Command {
     Got { mark: RawMark },
     // A guest, with that slip.
     Serve { slip: RawVector },
+    // A letter for a replica that has that many committed, and that vector.
+    Letter { committed: u64, vector: RawVector },
+    // A letter comes, as the digits of the line.
+    Take,
+    // A letter is carried, or lost on the way.
+    Walk { from: u64, to: u64 },
+    Lose { from: u64, to: u64 },
+    // A letter that was written comes once more, or late; or only its first bytes come.
+    Again { letter: u64, to: u64 },
+    Cut { letter: u64, to: u64, bytes: u64 },
+    // A crash: of what was not synced, so many bytes are kept.
+    Stop { hut: u64, bytes: u64 },
+    // How lines are written.
+    Help,
+}
+
+// What was read of a line: what it asks for, and the letter that it brings, which has no digits but for `take`.
+#[derive(Clone, Copy)]
+pub struct Asked<'a> {
+    pub command: Result<Command, Expected>,
+    pub letter: Hex<'a>,
 }
 
 // What a line should have been.
 // It is answered in a line, and no error of a program: so no `Error`.
 #[derive(Clone, Copy)]
 pub enum Expected {
+    // Any command; any of a hut's.
     Command,
+    HutCommand,
     Form { verb: Verb },
+    // A letter in hexadecimal digits.
+    Take,
     // The huts of a rehearsal are named before all else, and not again.
     HutsFirst,
     HutsOnce,

@@ -1,6 +1,6 @@
 // The form of each command: which numbers stand behind its verb.
 ghost use Rattle.std.specs.Prelude.{◌≡◌, take};
-ghost use Rattle.console.specs.Commands.{said_if, said_by, huts_of, at_of, book_of, cancel_of, change_of, beds_of, show_of, got_of, serve_of};
+ghost use Rattle.console.specs.Commands.{said_if, said_by, huts_of, at_of, book_of, cancel_of, change_of, beds_of, show_of, got_of, serve_of, letter_of, walk_of, lose_of, again_of, cut_of, stop_of};
 
 use crate::command::Command;
 use crate::language::alone;
@@ -27,6 +27,13 @@ pub(crate) fn by_verb(verb: Verb, numbers: Numbers) -> Option<Command>
         Verb::Line => alone(Command::Line, numbers.as_slice()),
         Verb::Got => got(numbers.as_slice()),
         Verb::Serve => serve(numbers.as_slice()),
+        Verb::Letter => letter(numbers.as_slice()),
+        Verb::Walk => walk(numbers.as_slice()),
+        Verb::Lose => lose(numbers.as_slice()),
+        Verb::Again => again(numbers.as_slice()),
+        Verb::Cut => cut(numbers.as_slice()),
+        Verb::Stop => stop(numbers.as_slice()),
+        Verb::Help => alone(Command::Help, numbers.as_slice()),
     }
 }
 
@@ -113,4 +120,77 @@ fn serve(numbers: &[u64]) -> Option<Command>
 {
     let slip = RawVector::read(numbers)?;
     Some(Command::Serve { slip })
+}
+
+fn letter(numbers: &[u64]) -> Option<Command>
+    ensures { said_if result ≡ letter_of numbers.now }
+{
+    let (committed, stamps) = numbers.split_first()?;
+    let vector = RawVector::read(stamps)?;
+    Some(Command::Letter {
+        committed: *committed,
+        vector,
+    })
+}
+
+// `walk`, `lose`, `again` and `stop` have two numbers each, under other names: a helper would hand out a pair to be named again.
+fn walk(numbers: &[u64]) -> Option<Command>
+    ensures { said_if result ≡ walk_of numbers.now }
+{
+    match numbers {
+        [from, to] => Some(Command::Walk {
+            from: *from,
+            to: *to,
+        }),
+        _ => None,
+    }
+}
+
+fn lose(numbers: &[u64]) -> Option<Command>
+    ensures { said_if result ≡ lose_of numbers.now }
+{
+    match numbers {
+        [from, to] => Some(Command::Lose {
+            from: *from,
+            to: *to,
+        }),
+        _ => None,
+    }
+}
+
+fn again(numbers: &[u64]) -> Option<Command>
+    ensures { said_if result ≡ again_of numbers.now }
+{
+    match numbers {
+        [letter, to] => Some(Command::Again {
+            letter: *letter,
+            to: *to,
+        }),
+        _ => None,
+    }
+}
+
+fn cut(numbers: &[u64]) -> Option<Command>
+    ensures { said_if result ≡ cut_of numbers.now }
+{
+    match numbers {
+        [letter, to, bytes] => Some(Command::Cut {
+            letter: *letter,
+            to: *to,
+            bytes: *bytes,
+        }),
+        _ => None,
+    }
+}
+
+fn stop(numbers: &[u64]) -> Option<Command>
+    ensures { said_if result ≡ stop_of numbers.now }
+{
+    match numbers {
+        [hut, bytes] => Some(Command::Stop {
+            hut: *hut,
+            bytes: *bytes,
+        }),
+        _ => None,
+    }
 }

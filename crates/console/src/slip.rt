@@ -32,7 +32,7 @@ pub enum SlipVerb {
     Help,
 }
 
-// What a line should have been. Not `Expected`: that has two cases more, and each names its own commands in its text.
+// What a line should have been. Not `Expected`: that has four cases more, and each names its own commands in its text.
 // It is answered in a line, and no error of a program: so no `Error`.
 #[derive(Clone, Copy)]
 pub enum SlipExpected {

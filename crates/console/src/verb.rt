@@ -1,4 +1,4 @@
-// What a line's first word asks for.
+// What a line's first word asks for, of those that have numbers behind them.
 ghost use Rattle.std.specs.Prelude.{◌≡◌};
 ghost use Rattle.console.specs.Verbs.{verb_of};
 
@@ -16,6 +16,13 @@ pub enum Verb {
     Line,
     Got,
     Serve,
+    Letter,
+    Walk,
+    Lose,
+    Again,
+    Cut,
+    Stop,
+    Help,
 }
 
 // The verb that a word names.
@@ -35,6 +42,13 @@ pub(crate) fn read_verb(word: &[u8]) -> Option<Verb>
         b"line" => Some(Verb::Line),
         b"got" => Some(Verb::Got),
         b"serve" => Some(Verb::Serve),
+        b"letter" => Some(Verb::Letter),
+        b"walk" => Some(Verb::Walk),
+        b"lose" => Some(Verb::Lose),
+        b"again" => Some(Verb::Again),
+        b"cut" => Some(Verb::Cut),
+        b"stop" => Some(Verb::Stop),
+        b"help" => Some(Verb::Help),
         _ => None,
     }
 }

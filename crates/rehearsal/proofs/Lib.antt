@@ -1,3 +1,1 @@
 pub mod Gotten
-pub mod Huts
-pub mod Placed

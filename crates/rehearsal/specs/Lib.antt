@@ -1,3 +1,1 @@
-pub mod Scenes
 pub mod Told
-pub mod Views

@@ -1,15 +1,17 @@
-// The replicas of a rehearsal, and which of them is meant.
+// The huts of a rehearsal, which of them is meant, and the letters by their numbers.
 ghost use Rattle.std.specs.Prelude.{◌<◌, vec_len};
 
-use replica::replica::Replica;
+use network::rehearsal::Rehearsal;
 
-mod changes;
-mod makes;
+mod carries;
+mod plays;
 
-// One of them, by its place, is the one that commands are for.
 #[derive(Drop)]
 pub struct Cast {
-    replicas: Vec<Replica>,
+    rehearsal: Rehearsal,
+    // The place of the hut that lines are for.
     current: usize,
-    ghost within: { current < vec_len replicas },
+    // The letters that were carried or lost, by their numbers from 1.
+    carried: Vec<usize>,
+    ghost within: { current < vec_len rehearsal.stage.keepers },
 }

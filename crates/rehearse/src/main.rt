@@ -5,8 +5,10 @@ use play::play;
 use std::io::{BufRead, BufReader, BufWriter, Write};
 use std::process::ExitCode;
 
+mod carry;
 mod play;
 mod say;
+mod told;
 
 // A line without its line break.
 fn cut(line: &[u8]) -> &[u8] {

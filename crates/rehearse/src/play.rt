@@ -1,16 +1,14 @@
 // What each line of the script does, and what is written for it.
-use crate::say::{say, say_book, say_error, say_log, say_or_refuse};
-use anyhow::anyhow;
+use crate::carry::carry;
+use crate::say::{or_refuse, say, say_error};
+use crate::told::at_hut;
 use console::answer::Answer;
 use console::command::{Command, Expected};
+use console::hex::Hex;
 use console::line::read_command;
-use console::mark::RawMark;
-use console::request::Request;
-use rehearsal::answers;
+use journal::opened::NotOpened;
 use rehearsal::cast::Cast;
-use replica::fault::Fault;
 use std::alloc::Global;
-use std::io;
 use std::io::Write;
 
 // The stage is empty until the huts are named.
@@ -20,7 +18,8 @@ pub fn play(
     stage: &mut Option<Cast>,
     line: &[u8],
 ) -> anyhow::Result<()> {
-    let command = match read_command(line) {
+    let asked = read_command(line);
+    let command = match asked.command {
         Ok(command) => command,
         Err(expected) => {
             say_error(out, expected)?;
@@ -28,10 +27,9 @@ pub fn play(
         }
     };
     match stage {
-        Some(cast) => answer(out, cast, &command)?,
-        None => open(out, heap, stage, &command)?,
+        Some(cast) => answer(out, heap, cast, &command, asked.letter),
+        None => open(out, heap, stage, &command),
     }
-    Ok(())
 }
 
 // Before the huts are named, nothing else can be asked for.
@@ -45,45 +43,35 @@ fn open(
         Command::Pass => {}
         Command::Huts { huts } => match Cast::new(heap, huts.as_slice()) {
             Ok(cast) => *stage = Some(cast),
-            Err(Fault::Refused(why)) => say(out, Answer::Refused { why })?,
-            Err(Fault::Memory) => return Err(anyhow!("no memory for the huts")),
+            Err(NotOpened::Refused(why)) => say(out, Answer::Refused { why })?,
+            Err(why) => return Err(why.into()),
         },
         _ => say_error(out, Expected::HutsFirst)?,
     }
     Ok(())
 }
 
-// A command for the hut that is meant, or one that says which is.
-fn answer(out: &mut impl Write, cast: &mut Cast, command: &Command) -> io::Result<()> {
+// A command of the rehearsal, or one for the hut that is meant.
+fn answer(
+    out: &mut impl Write,
+    heap: Global,
+    cast: &mut Cast,
+    command: &Command,
+    letter: Hex,
+) -> anyhow::Result<()> {
     match command {
-        Command::Pass => Ok(()),
-        Command::Huts { .. } => say_error(out, Expected::HutsOnce),
-        Command::At { hut } => match cast.at(*hut) {
-            Ok(()) => Ok(()),
-            Err(why) => say(out, Answer::Refused { why }),
-        },
-        Command::Make { request } => enter(out, cast, request),
-        Command::ShowNight { hut, night } => {
-            say_or_refuse(out, answers::night(cast.meant(), *hut, *night))
+        Command::Pass => {}
+        Command::Huts { .. } => say_error(out, Expected::HutsOnce)?,
+        Command::At { hut } => {
+            let meant = cast.at(*hut).map_err(Into::into);
+            or_refuse(out, meant)?;
         }
-        Command::Show => say_book(out, cast.meant()),
-        Command::Got { mark } => say_or_refuse(out, answers::got(cast.meant(), mark)),
-        Command::Line => say_log(out, cast.meant()),
-        Command::Ink => commit(out, cast),
-        Command::Have => say(out, answers::have(cast.meant())),
-        Command::Serve { slip } => say_or_refuse(out, answers::served(cast.meant(), slip)),
+        Command::Walk { .. }
+        | Command::Lose { .. }
+        | Command::Again { .. }
+        | Command::Cut { .. }
+        | Command::Stop { .. } => carry(out, heap, cast, command)?,
+        _ => at_hut(out, heap, cast, command, letter)?,
     }
-}
-
-fn enter(out: &mut impl Write, cast: &mut Cast, request: &Request) -> io::Result<()> {
-    let made = cast.enter(request).map(|mark| Answer::Made {
-        mark: RawMark::from(mark),
-    });
-    say_or_refuse(out, made)
-}
-
-fn commit(out: &mut impl Write, cast: &mut Cast) -> io::Result<()> {
-    let place = cast.meant().committed();
-    let inked = cast.commit().map(|first| answers::committed(first, place));
-    say_or_refuse(out, inked)
+    Ok(())
 }

@@ -7,12 +7,12 @@ mod shows;
 // A letter by its number, counted from 1.
 #[derive(Clone, Copy)]
 pub enum Carried {
-    Walked { letter: u64, from: u8, to: u8 },
-    Lost { letter: u64, from: u8, to: u8 },
+    Walked { letter: u64, from: u64, to: u64 },
+    Lost { letter: u64, from: u64, to: u64 },
     // It came once more, or late.
-    Again { letter: u64, to: u8 },
+    Again { letter: u64, to: u64 },
     // Only its first bytes came.
-    Cut { letter: u64, bytes: u64, to: u8 },
+    Cut { letter: u64, bytes: u64, to: u64 },
 }
 
 #[derive(Clone, Copy)]

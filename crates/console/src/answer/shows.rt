@@ -37,6 +37,10 @@ impl fmt::Display for Answer {
                 got,
             } => write!(f, "{mark} {standing}: {got}"),
             Answer::Served { slip } => write!(f, "served {slip}"),
+            Answer::Letter { carried } => write!(f, "{carried}"),
+            Answer::Take { taking } => write!(f, "{taking}"),
+            Answer::Opened { opened } => write!(f, "{opened}"),
+            Answer::Usage { usage } => write!(f, "{usage}"),
             Answer::Error { expected } => write!(f, "error: {expected}"),
         }
     }
@@ -95,9 +99,13 @@ impl fmt::Display for Expected {
     fn fmt<W: fmt::Write>(&self, f: &mut fmt::Formatter<W>) -> fmt::Result {
         match self {
             Expected::Command => f.write_str(
-                "expected a command: huts, at, book, cancel, change, beds, ink, have, show, line, got or serve",
+                "expected a command: huts, at, book, cancel, change, beds, ink, have, letter, take, show, line, got, serve, walk, lose, again, cut, stop or help",
+            ),
+            Expected::HutCommand => f.write_str(
+                "expected a command: book, cancel, change, beds, ink, have, letter, take, show, line, got, serve or help",
             ),
             Expected::Form { verb } => write!(f, "expected: {verb}"),
+            Expected::Take => f.write_str("expected: take HEX"),
             Expected::HutsFirst => f.write_str("expected huts first"),
             Expected::HutsOnce => f.write_str("expected huts only once"),
         }
@@ -122,6 +130,13 @@ impl fmt::Display for Verb {
             Verb::Line => "line",
             Verb::Got => "got S H",
             Verb::Serve => "serve S0 .. S15",
+            Verb::Letter => "letter C S0 .. S15",
+            Verb::Walk => "walk I J",
+            Verb::Lose => "lose I J",
+            Verb::Again => "again K J",
+            Verb::Cut => "cut K J N",
+            Verb::Stop => "stop I N",
+            Verb::Help => "help",
         })
     }
 }

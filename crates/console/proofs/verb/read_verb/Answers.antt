@@ -7,3 +7,12 @@ returns-in-cancel c = rw (text_from_reads c.args.word.now (codes "cancel") (omeg
 
 pub returns-in-change : goal.returns-in-change
 returns-in-change c = rw (text_from_reads c.args.word.now (codes "change") (omega arith) (search rules)) refl
+
+pub returns-in-letter : goal.returns-in-letter
+returns-in-letter c = rw (text_from_reads c.args.word.now (codes "letter") (omega arith) (search rules)) refl
+
+pub returns-in-again : goal.returns-in-again
+returns-in-again c = rw (text_from_reads c.args.word.now (codes "again") (omega arith) (search rules)) refl
+
+pub returns-in-serve : goal.returns-in-serve
+returns-in-serve c = rw (text_from_reads c.args.word.now (codes "serve") (omega arith) (search rules)) refl

@@ -1,0 +1,83 @@
+// What the hut that is meant does.
+ghost use Rattle.std.specs.Prelude.{◌≡◌, ◌<◌, ◌⊎◌, true, false, [], List, get_or, vec_len, MatchOption, MatchResult};
+ghost use Rattle.bookings.specs.Plain.{plain_kind};
+ghost use Rattle.bookings.specs.Refusals.{number_of};
+ghost use Rattle.console.specs.Checks.{RequestOk};
+ghost use Rattle.console.specs.Requests.{asked};
+ghost use Rattle.journal.specs.declared.opened.NotOpened.TheVariants.{Memory as NoMemory, Refused as Kept_out, Failed as Broken};
+ghost use Rattle.network.specs.Acts.{Told, Denied, writes};
+ghost use Rattle.network.specs.Casts.{Absent, CastOk, Opens};
+ghost use Rattle.network.specs.Net.{Event};
+ghost use Rattle.network.specs.Reached.{Promises};
+ghost use Rattle.network.specs.Stages.{Unsynced, hut_at, huts_of, state_at};
+ghost use Rattle.network.specs.Stands.{Stands, Went};
+ghost use Rattle.network.specs.declared.unplayed.Unplayed.TheVariants.{Memory, Refused, Failed};
+ghost use Rattle.replica.specs.Views.{state_of};
+
+use super::Cast;
+use bookings::refusal::Refusal;
+use journal::opened::NotOpened;
+use network::act::{Act, Done};
+use network::rehearsal::Rehearsal;
+use network::unplayed::Unplayed;
+use replica::replica::Replica;
+use std::alloc::Global;
+
+impl Cast {
+    // One to four different huts, none of which has an entry; the first is meant.
+    pub fn new(heap: Global, huts: &[u64]) -> Result<Cast, NotOpened>
+        ensures { MatchResult result
+            (λ c. CastOk huts.now × Opens huts.now (huts_of c.rehearsal.stage) × Stands c.rehearsal.stage [] × (c.current ≡ 0) × (c.rehearsal.forged ≡ false) × (c.carried.items ≡ []))
+            (λ e. elim e [ NoMemory ↦ Unit {0} | Kept_out w ↦ (number_of w ≡ 2) × (CastOk huts.now → ⊥) | Broken f ↦ ⊥ ]) }
+    {
+        let rehearsal = Rehearsal::new(heap, huts)?;
+        Ok(Cast {
+            rehearsal,
+            current: 0,
+            carried: Vec::new(heap),
+        })
+    }
+
+    // From now on a hut is meant; refused where it is none of them (2).
+    pub fn at(&mut self, hut: u64) -> Result<(), Refusal>
+        ensures rehearsal { self.new.rehearsal ≡ self.old.rehearsal }
+        ensures carried { self.new.carried ≡ self.old.carried }
+        ensures current { MatchResult result
+            (λ _. hut_at (huts_of self.old.rehearsal.stage) self.new.current ≡ hut)
+            (λ e. (number_of e ≡ 2) × Absent hut (huts_of self.old.rehearsal.stage) × (self.new.current ≡ self.old.current)) }
+    {
+        self.current = self.place(hut)?;
+        Ok(())
+    }
+
+    // The place of a hut; refused where it is none of them (2).
+    pub(crate) fn place(&self, hut: u64) -> Result<usize, Refusal>
+        ensures { MatchResult result
+            (λ p. (p < vec_len self.now.rehearsal.stage.keepers) × (hut_at (huts_of self.now.rehearsal.stage) p ≡ hut))
+            (λ e. (number_of e ≡ 2) × Absent hut (huts_of self.now.rehearsal.stage)) }
+    {
+        self.rehearsal.find(hut).ok_or(Refusal::OutOfRange)
+    }
+
+    // The replica of the hut that is meant, to be shown: none where something of it is not synced.
+    pub fn meant(&self) -> Option<&Replica>
+        ensures { MatchOption result
+            (Unsynced (huts_of self.now.rehearsal.stage) self.now.current)
+            (λ p. state_of p.now ≡ state_at (huts_of self.now.rehearsal.stage) self.now.current) }
+    {
+        self.rehearsal.shown(self.current)
+    }
+
+    // The hut that is meant does what it is told.
+    pub fn play(&mut self, heap: Global, act: &Act) -> Result<Done, Unplayed>
+        ensures answer { MatchResult result
+            (Told (huts_of self.old.rehearsal.stage) self.old.current (vec_len self.old.rehearsal.stage.letters) act.now)
+            (λ e. elim e [ Memory ↦ writes act.now ≡ true | Refused w ↦ Denied (huts_of self.old.rehearsal.stage) self.old.current (vec_len self.old.rehearsal.stage.letters) act.now w | Failed f ↦ ⊥ ]) }
+        ensures steps { (es : List Event) → Stands self.old.rehearsal.stage es → Went self.old.rehearsal.stage self.new.rehearsal.stage self.old.current act.now result es }
+        ensures promised { self.new.rehearsal.forged ≡ false → Promises self.new.rehearsal.stage }
+        ensures current { self.new.current ≡ self.old.current }
+        ensures carried { self.new.carried ≡ self.old.carried }
+    {
+        self.rehearsal.play(heap, self.current, act)
+    }
+}
