@@ -258,7 +258,7 @@ module _ (s t : Stage) (i : ℕ) (within : i < length (huts_of s)) (es : List Ev
   went_cut letter len (Err e) letters left there = unmoved e letters left
 
   -- the state of the replica is what its hut has kept
-  state_kept : (qs : List Hut) → qs ≡ huts_of s → state_at (huts_of s) i ≡ state_in (kept h)
+  pub state_kept : (qs : List Hut) → qs ≡ huts_of s → state_at (huts_of s) i ≡ state_in (kept h)
   state_kept [] is = absurd (omega (arith, within, ap length is))
   state_kept (q ∷ qs) is = get_or-map (λ p. state_by p) (huts_of s) i q (fresh 0) within ∙ (stands.follows.in_step i q within).state
 

@@ -60,8 +60,9 @@ impl Stage {
         ensures letters { self.new.letters ≡ self.old.letters }
         ensures many { vec_len self.new.keepers ≡ vec_len self.old.keepers }
     {
-        self.keepers[at].sync()?;
-        let replica = self.keepers[at].shown().ok_or(Fault::Shut)?;
+        let keeper = &mut self.keepers[at];
+        keeper.sync()?;
+        let replica = keeper.shown().ok_or(Fault::Shut)?;
         Ok(Done::Visited(replica.serve(slip)?))
     }
 
