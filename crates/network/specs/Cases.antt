@@ -10,7 +10,7 @@ use Rattle.entry_log.specs.Vectors.{no_stamps, noted}
 use Rattle.journal.specs.History.{state_in}
 use Rattle.replica.specs.Model.{State, marks_of, serves}
 use Rattle.network.specs.Items.{Letter, refusal_of}
-use Rattle.network.specs.Net.{Net, Event, Makes, Commits, Syncs, Writes, Takes, after}
+use Rattle.network.specs.Net.{Event, Makes, Commits, Syncs, Writes, Takes, after}
 use Rattle.network.specs.Stages.{huts_of, hut_at, state_at}
 use Rattle.network.specs.Stands.{Stands}
 use Rattle.network.specs.declared.stage.Stage.{Stage}

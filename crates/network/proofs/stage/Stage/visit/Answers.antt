@@ -1,11 +1,10 @@
-use Rattle.std.proofs.Common.{◌≡◌, ◌<◌, length, refl, rules, vec_items, sym, ap, inr, ◌∙◌}
+use Rattle.std.proofs.Common.{◌≡◌, refl, rules, vec_items, sym, ap, inr, ◌∙◌}
 use Rattle.std.proofs.lemmas.Result.{err_from_is_err_and}
-use Rattle.std.proofs.lemmas.List.{get_or-set_same}
 use Rattle.std.proofs.lemmas.Option.{MatchOption-at_some}
 use Rattle.journal.specs.History.{synced}
 use Rattle.replica.specs.Model.{serves, slip_after}
 use Rattle.replica.specs.Views.{state_of}
-use Rattle.network.specs.Stages.{Hut, state_at}
+use Rattle.network.specs.Stages.{state_at}
 use Rattle.network.proofs.Stages.{state_here, turned}
 use Rattle.network.proofs.stage.Stage.visit.Goals as goal
 
