@@ -3,7 +3,7 @@
 use crate::book::{Book, Outcome};
 use crate::entries::{self, Kind, Mark, NIGHTS, OUT_OF_RANGE, Refused, Stay};
 use crate::hut::Hut;
-use crate::line::{Command, Make};
+use crate::line::{Command, FORMS, Make};
 use crate::log::Vector;
 use std::fmt::Write;
 
@@ -45,8 +45,9 @@ impl Script {
         if words.is_empty() || words[0][0] == b'#' {
             return;
         }
-        let Some(command) = Command::read(&words) else {
-            return self.say("error: expected a command and its numbers");
+        let command = match Command::read(&words) {
+            Ok(command) => command,
+            Err(expected) => return self.say(&format!("error: {expected}")),
         };
         match self.obey(command) {
             Ok(()) => {}
@@ -136,6 +137,7 @@ impl Script {
                 self.say(&format!("letter {number} cut to {kept} to {to}"));
                 self.take(receiver, &letter);
             }
+            Command::Help => FORMS.iter().for_each(|form| self.say(form)),
             Command::Stop(hut, kept) => {
                 let at = self.find(hut)?;
                 let cut_off = self.huts[at].stop(kept);
