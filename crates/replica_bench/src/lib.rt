@@ -21,6 +21,7 @@ pub extern "C" fn journal_sum(heap: Global, bytes: &[u8]) -> u64 {
 
 // What came of bytes that a replica was given: the sum of its log and book before and after, how many entries it has then and how many of these are
 // committed, how many were taken, skipped and kept out, and whether all was damaged; of a journal, `rejected` is how many bytes were cut off.
+#[derive(Clone, Copy)]
 #[repr(C)]
 pub struct Told {
     pub before: u64,
