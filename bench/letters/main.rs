@@ -1,13 +1,16 @@
-//! Times letters that are read and written by the proved code beside its twin in plain Rust, turn by turn in one run.
-mod twin;
+//! Letters that are read and written by the proved code beside its twin in plain Rust.
+#[path = "../digest/twin.rs"]
+mod digest;
+#[path = "../measuring.rs"]
+mod measuring;
+#[path = "twin.rs"]
+mod letters;
 
+use letters::{Choice, Choices, Entry, Item, Kind, Letter, Mark, Waiting, write_letter};
+use measuring::Bench;
 use std::hint::black_box;
-use std::time::Instant;
-use twin::{Choice, Choices, Entry, Item, Kind, Letter, Mark, Waiting, write_letter};
 
 const ENTRIES: u32 = 1024;
-const REPEATS: u32 = 200;
-const TURNS: usize = 9;
 
 unsafe extern "C" {
     fn letter_sum(bytes: *const u8, len: usize) -> u64;
@@ -68,35 +71,19 @@ fn letter(committed: u32) -> Vec<u8> {
     out
 }
 
-fn timed<T>(run: impl Fn() -> T) -> (f64, T) {
-    let start = Instant::now();
-    let result = black_box(run());
-    (start.elapsed().as_secs_f64() / REPEATS as f64 * 1e6, result)
-}
-
-fn compare<T: PartialEq + std::fmt::Debug>(what: &str, proved: impl Fn() -> T, twin: impl Fn() -> T) {
-    let (mut ours, mut theirs) = (f64::MAX, f64::MAX);
-    for _ in 0..TURNS {
-        let (a, one) = timed(&proved);
-        let (b, two) = timed(&twin);
-        assert_eq!(one, two, "the results differ");
-        ours = ours.min(a);
-        theirs = theirs.min(b);
-    }
-    println!("{what}, best of {TURNS} turns:");
-    println!("  proved    {ours:.1} us");
-    println!("  twin      {theirs:.1} us");
-    println!("  ratio     {:.3}", ours / theirs);
-}
-
-fn repeated(sum: fn(&[u8]) -> u64, bytes: &[u8]) -> u64 {
-    (0..REPEATS).fold(0, |all, _| all + sum(black_box(bytes)))
+fn repeated(sum: fn(&[u8]) -> u64, bytes: &[u8], repeats: usize) -> u64 {
+    (0..repeats).fold(0, |all, _| all + sum(black_box(bytes)))
 }
 
 fn main() {
-    for (name, committed) in [("1,024 committed entries", ENTRIES), ("1,024 tentative entries", 0)] {
+    let bench = Bench::new();
+    let repeats = bench.amount(200, 5);
+    for (name, committed) in [("committed", ENTRIES), ("tentative", 0)] {
         let bytes = letter(committed);
-        compare(&format!("Reading a letter of {name}"), || repeated(proved_sum, &bytes), || repeated(twin_sum, &bytes));
-        compare(&format!("Writing a letter of {name}"), || proved_written(&bytes, REPEATS), || twin_written(&bytes, REPEATS));
+        let read = format!("a letter of 1,024 {name} entries, read");
+        bench.row(&read, repeats, || repeated(proved_sum, &bytes, repeats), || repeated(twin_sum, &bytes, repeats));
+        let written = format!("a letter of 1,024 {name} entries, written");
+        let turns = repeats as u32;
+        bench.row(&written, repeats, || proved_written(&bytes, turns), || twin_written(&bytes, turns));
     }
 }

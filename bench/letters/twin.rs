@@ -1,15 +1,14 @@
 //! Letters in plain Rust, in the style of crates/letters: checked, with entries as values.
 
-#[path = "../digest/twin.rs"]
-mod digest;
+use crate::digest;
 
-#[derive(Clone, Copy)]
+#[derive(Clone, Copy, PartialEq, Eq, PartialOrd, Ord)]
 pub struct Mark {
     pub stamp: u32,
     pub hut: u8,
 }
 
-#[derive(Clone, Copy)]
+#[derive(Clone, Copy, PartialEq)]
 pub struct Choice {
     pub hut: u8,
     pub night: u16,
@@ -23,7 +22,13 @@ pub struct Choices {
     pub all: [Choice; 4],
 }
 
-#[derive(Clone, Copy)]
+impl PartialEq for Choices {
+    fn eq(&self, other: &Choices) -> bool {
+        self.all[..self.count as usize] == other.all[..other.count as usize]
+    }
+}
+
+#[derive(Clone, Copy, PartialEq)]
 pub enum Kind {
     Book { guest: u32, choices: Choices },
     Cancel { mark: Mark },
@@ -31,7 +36,7 @@ pub enum Kind {
     Beds { supply: Choice },
 }
 
-#[derive(Clone, Copy)]
+#[derive(Clone, Copy, PartialEq)]
 pub struct Entry {
     pub mark: Mark,
     pub kind: Kind,
@@ -53,6 +58,23 @@ pub struct Reader<'a> {
 }
 
 impl<'a> Reader<'a> {
+    pub fn new(rest: &'a [u8]) -> Reader<'a> {
+        Reader { rest }
+    }
+
+    pub fn rest(&self) -> &'a [u8] {
+        self.rest
+    }
+
+    /// A record of a journal: its form, 1 or 2, and its entry.
+    pub fn record(&mut self) -> Result<(u8, Entry), Wrong> {
+        let [form] = self.take()?;
+        if form != 1 && form != 2 {
+            return Err(Wrong::Out);
+        }
+        Ok((form, self.entry()?))
+    }
+
     fn take<const N: usize>(&mut self) -> Result<[u8; N], Wrong> {
         let (first, rest) = self.rest.split_first_chunk::<N>().ok_or(Wrong::Short)?;
         self.rest = rest;
@@ -232,7 +254,7 @@ fn put_choices(out: &mut Vec<u8>, choices: &Choices) {
     }
 }
 
-fn put_entry(out: &mut Vec<u8>, entry: &Entry) {
+pub fn put_entry(out: &mut Vec<u8>, entry: &Entry) {
     put_mark(out, entry.mark);
     match &entry.kind {
         Kind::Book { guest, choices } => {

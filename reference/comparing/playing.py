@@ -26,17 +26,12 @@ def ended_well(printed):
     return not (printed and printed[-1].startswith("("))
 
 
-def alike(one, other):
-    """What stands behind `error: ` is not compared."""
-    return one == other or (one.startswith("error: ") and other.startswith("error: "))
-
-
 def first_difference(one, other):
     """The number of the first line that differs, from 1, and that line of both; or None."""
     for place in range(max(len(one), len(other))):
         a = one[place] if place < len(one) else "(no line)"
         b = other[place] if place < len(other) else "(no line)"
-        if not alike(a, b):
+        if a != b:
             return place + 1, a, b
     return None
 

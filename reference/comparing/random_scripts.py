@@ -11,7 +11,7 @@ NOISE = ("", "   ", "# walk 0 1", "  # no", "\tink", "ink\r", "INK", "sleep", "c
          "take", "take 4", "take 4G", "take 4A", "take 42", "take 00", "take 42 42", "again 0 1", "again 999999999 1",
          "walk 16 17", "lose 99 1", "stop 99 5", "stop 0 9999999999", "cancel 0 1", "cancel 1 16", "book 4294967296",
          "book 4294967295", "book 99999999999", "book +1", "beds 5 9 1 256", "beds 5 9 1 255", "beds 5 9 1 0",
-         "book 1" + " 5 9 1 1" * 5, "change 1 1" + " 5 9 1 1" * 5, "serve" + " 0" * 17, "letter 0" + " 0" * 17)
+         "help", "help 1", "book 1" + " 5 9 1 1" * 5, "change 1 1" + " 5 9 1 1" * 5, "serve" + " 0" * 17, "letter 0" + " 0" * 17)
 WORDS = ([], ["0"], ["007"], ["16"], ["4294967296"], ["12345678901"], ["-1"], ["x"], ["5", "5"])
 
 
@@ -26,6 +26,7 @@ class Scene:
         rng.shuffle(self.huts)
         self.places = rng.sample(range(16), rng.choice((1, 1, 2)))
         self.first = rng.choice((0, 9, 100, 360))
+        self.opening = rng.choices((self.nothing, self.high_stamps, self.full_letter, self.full_log), (898, 60, 40, 2))[0]
         self.letters, self.vectors = [forging.letter()], [[0] * 16]
         self.learn([])
 
@@ -34,13 +35,14 @@ class Scene:
         if self.rng.random() < 0.05:
             lines += [self.rng.choice(("ink", "huts", "huts 16", "huts 1 1", "huts 1 2 3 4 5", "show", "walk 1 2"))]
         lines.append("huts " + " ".join(map(str, self.huts)))
+        lines += self.opening()
         for _ in range(8):
             for _ in range(self.length // 8):
                 lines += self.some_lines()
             self.learn(play(self.program, lines))
         for hut in self.huts:
             lines += [f"at {hut}", "have", "line", "show"]
-            lines += [f"got {stamp} {maker}" for stamp, maker in sorted(set(self.marks))]
+            lines += [f"got {stamp} {maker}" for stamp, maker in sorted(set(self.marks[-400:]))]
         return lines
 
     def learn(self, printed):
@@ -53,8 +55,50 @@ class Scene:
             elif words[0] == "made" or words[:2] == ["taken", "in"]:
                 at = 1 if words[0] == "made" else 3
                 self.marks.append((int(words[at]), int(words[at + 1])))
-            elif words[0] in ("have", "served"):
+            elif words[0] in ("have", "served") and len(words) > 16:
                 self.vectors.append([int(word) for word in words[-16:]])
+
+    def nothing(self):
+        return []
+
+    def taken(self, entries, place=0, in_ink=None):
+        """A letter of these entries comes to some hut, all in ink or all in pencil."""
+        in_ink = self.rng.random() < 0.5 if in_ink is None else in_ink
+        if in_ink:
+            return "take " + forging.letter(entries, place).hex()
+        return "take " + forging.letter(tentative=[(entry, [0] * 16) for entry in entries]).hex()
+
+    def high_stamps(self):
+        """One or two huts have stamps that are near the highest."""
+        rng = self.rng
+        lines = []
+        for hut in rng.sample(self.huts, min(2, len(self.huts))):
+            stamp = HIGHEST - rng.randrange(1, 12)
+            lines += [f"at {hut}", self.taken([forging.book(stamp, rng.randrange(16), 7, self.stays())])]
+        return lines
+
+    def many(self, count):
+        """Entries of one hut, each a booking, or of one before it."""
+        rng, maker = self.rng, self.rng.randrange(16)
+        entries = []
+        for at in range(count):
+            named = (rng.randrange(at) + 1, maker) if at else (1, maker)
+            stays = [self.right_stay() for _ in range(rng.choice((1, 1, 2)))]
+            ways = (forging.book(at + 1, maker, at, stays), forging.cancel(at + 1, maker, named),
+                    forging.change(at + 1, maker, named, stays), forging.beds(at + 1, maker, self.right_stay(40)))
+            entries.append(rng.choices(ways, (60, 15, 20, 5))[0])
+        return entries
+
+    def full_letter(self):
+        """A hut has about as many entries as a letter can have."""
+        return [f"at {self.rng.choice(self.huts)}", self.taken(self.many(1024 - self.rng.choice((0, 0, 1, 2, 8))))]
+
+    def full_log(self):
+        """A hut has about as many entries as a log can have."""
+        entries = self.many(65536 - self.rng.choice((0, 1, 2, 3, 5, 8)))
+        in_ink = self.rng.random() < 0.7
+        letters = [self.taken(entries[at:at + 1024], at, in_ink) for at in range(0, len(entries), 1024)]
+        return [f"at {self.rng.choice(self.huts)}"] + letters
 
     def hut(self):
         return self.rng.choice(self.huts) if self.rng.random() < 0.98 else self.rng.randrange(18)
@@ -65,8 +109,9 @@ class Scene:
         return self.rng.randrange(1, 14), self.hut()
 
     def stay(self, most=20):
-        if self.rng.random() < 0.02:
-            return self.rng.choice(WRONG_STAYS)
+        return self.rng.choice(WRONG_STAYS) if self.rng.random() < 0.02 else self.right_stay(most)
+
+    def right_stay(self, most=20):
         night = self.first + self.rng.randrange(4)
         beds = self.rng.choice((most, 20, 20, 15, 10, 10, 5, 5, 1))
         return self.rng.choice(self.places), night, self.rng.choice((1, 1, 2, 3, min(14, 366 - night))), beds

@@ -1,4 +1,30 @@
-//! A line as a command with raw numbers, or none.
+//! A line as a command with raw numbers, or what it should have been.
+
+const COMMANDS: &str = "a command: huts, at, book, cancel, change, beds, ink, have, letter, take, show, line, got, serve, walk, lose, again, cut, stop or help";
+
+/// The form of each command, which begins with its word, in the order in which `help` tells them.
+pub const FORMS: [&str; 20] = [
+    "huts, then one to four huts",
+    "at I",
+    "walk I J",
+    "lose I J",
+    "again K J",
+    "cut K J N",
+    "stop I N",
+    "book G, then up to four choices H N K B",
+    "cancel S H",
+    "change S H, then up to four choices H N K B",
+    "beds H N K B",
+    "ink",
+    "have",
+    "letter C S0 .. S15",
+    "take HEX",
+    "show, or show H N",
+    "line",
+    "got S H",
+    "serve S0 .. S15",
+    "help",
+];
 
 /// What is asked to be made.
 pub enum Make {
@@ -30,8 +56,17 @@ pub enum Command {
 }
 
 impl Command {
-    /// Of the words of a line, which are not empty.
-    pub fn read(words: &[&[u8]]) -> Option<Command> {
+    /// Of the words of a line, which are not empty; or what was expected.
+    pub fn read(words: &[&[u8]]) -> Result<Command, String> {
+        let is_of =
+            |form: &&&str| form.split([' ', ',']).next().map(str::as_bytes) == Some(words[0]);
+        let Some(form) = FORMS.iter().find(is_of) else {
+            return Err(format!("expected {COMMANDS}"));
+        };
+        Command::of_form(words).ok_or_else(|| format!("expected: {form}"))
+    }
+
+    fn of_form(words: &[&[u8]]) -> Option<Command> {
         if words[0] == b"take" {
             return match words {
                 [_, hex] => Some(Command::Take(bytes(hex)?)),

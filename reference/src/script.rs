@@ -3,31 +3,9 @@
 use crate::book::{Book, Outcome};
 use crate::entries::{self, Kind, Mark, NIGHTS, OUT_OF_RANGE, Refused, Stay};
 use crate::hut::Hut;
-use crate::line::{Command, Make};
+use crate::line::{Command, FORMS, Make};
 use crate::log::Vector;
 use std::fmt::Write;
-
-/// The forms of all commands: those of a rehearsal, then those of a hut.
-const FORMS: &str = "huts, then one to four huts
-at I
-walk I J
-lose I J
-again K J
-cut K J N
-stop I N
-book G, then up to four choices H N K B
-cancel S H
-change S H, then up to four choices H N K B
-beds H N K B
-ink
-have
-letter C S0 .. S15
-take HEX
-show, or show H N
-line
-got S H
-serve S0 .. S15
-help";
 
 /// Why a line is not done.
 pub enum Trouble {
@@ -67,8 +45,9 @@ impl Script {
         if words.is_empty() || words[0][0] == b'#' {
             return;
         }
-        let Some(command) = Command::read(&words) else {
-            return self.say("error: expected a command and its numbers");
+        let command = match Command::read(&words) {
+            Ok(command) => command,
+            Err(expected) => return self.say(&format!("error: {expected}")),
         };
         match self.obey(command) {
             Ok(()) => {}
@@ -158,6 +137,7 @@ impl Script {
                 self.say(&format!("letter {number} cut to {kept} to {to}"));
                 self.take(receiver, &letter);
             }
+            Command::Help => FORMS.iter().for_each(|form| self.say(form)),
             Command::Stop(hut, kept) => {
                 let at = self.find(hut)?;
                 let cut_off = self.huts[at].stop(kept);
@@ -172,7 +152,6 @@ impl Script {
                 }
                 self.say(&line);
             }
-            Command::Help => self.say(FORMS),
         }
         Ok(())
     }
