@@ -22,3 +22,9 @@ fn digit(b: u8) -> Option<u64>
     let value = char::from(b).to_digit(10)?;
     Some(u64::from(value))
 }
+
+// The number of a hut that a word writes.
+pub fn read_hut(word: &[u8]) -> Option<u8> {
+    let number = read_number(word)?;
+    u8::try_from(number).ok().filter(|hut| *hut < 16)
+}

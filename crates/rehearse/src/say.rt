@@ -8,7 +8,7 @@ use console::command::Expected;
 use console::mark::RawMark;
 use network::outcome::Outcome;
 use network::unplayed::Unplayed;
-use rehearsal::answers;
+use desk::answers;
 use replica::replica::Replica;
 use std::io;
 use std::io::Write;

@@ -13,7 +13,7 @@ use console::vector::RawVector;
 use letters::writer::LETTER_ROOM;
 use network::act::{Act, Done};
 use network::unplayed::Unplayed;
-use rehearsal::answers;
+use desk::answers;
 use rehearsal::cast::Cast;
 use replica::replica::Replica;
 use replica::summary::Summary;

@@ -3,8 +3,8 @@ use Rattle.console.specs.Requests.{asked_mark}
 use Rattle.replica.specs.Model.{marks_of}
 use Rattle.replica.specs.Views.{state_of}
 use Rattle.bookings.specs.Books.{place_from}
-use Rattle.rehearsal.proofs.Gotten.{got_is}
-use Rattle.rehearsal.proofs.answers.got.Goals as goal
+use Rattle.desk.proofs.Gotten.{got_is}
+use Rattle.desk.proofs.answers.got.Goals as goal
 
 pub returns : goal.returns
 returns c =

@@ -9,11 +9,12 @@ ghost use Rattle.console.specs.Requests.{asked_mark, raw_mark};
 ghost use Rattle.entry_log.specs.Logs.{all_of};
 ghost use Rattle.entry_log.specs.Vectors.{vector_of};
 ghost use Rattle.replica.specs.Views.{state_of};
-ghost use Rattle.rehearsal.specs.Told.{AskedOk, GotRefused, got_in, night_told, noted_on, committed_at, ServedBy, ServeRefused};
+ghost use Rattle.desk.specs.Told.{AskedOk, GotRefused, got_in, night_told, noted_on, committed_at, ServedBy, ServeRefused};
 
 use bookings::book::Night;
 use bookings::entry::{Entry, Mark};
 use bookings::refusal::Refusal;
+use console::answer::starts::Opened;
 use console::answer::{Answer, Got, KindName, Standing};
 use console::mark::RawMark;
 use console::vector::RawVector;
@@ -116,4 +117,18 @@ pub fn served(replica: &Replica, slip: &RawVector) -> Result<Answer, Refusal>
     let slip = slip.vector()?;
     let after = replica.serve(slip)?;
     Ok(Answer::Served { slip: after })
+}
+
+// What was opened, and how many bytes of its journal were cut off.
+pub fn opened(replica: &Replica, cut: usize) -> Answer {
+    let committed = replica.committed();
+    let tentative = replica.entries().len().saturating_sub(committed);
+    Answer::Opened {
+        opened: Opened {
+            hut: replica.hut(),
+            committed,
+            tentative,
+            cut,
+        },
+    }
 }

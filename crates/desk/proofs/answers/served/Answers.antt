@@ -1,7 +1,7 @@
 use Rattle.std.proofs.Common.{sym, refl, ap, ◌∙◌}
 use Rattle.replica.specs.Model.{serves, slip_after}
 use Rattle.replica.specs.Views.{state_of}
-use Rattle.rehearsal.proofs.answers.served.Goals as goal
+use Rattle.desk.proofs.answers.served.Goals as goal
 
 pub returns : goal.returns
 returns c =

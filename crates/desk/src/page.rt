@@ -1,0 +1,37 @@
+// A page for a letter that is written or has come.
+ghost use Rattle.std.specs.Prelude.{◌≤◌, vec_capacity};
+
+use console::hex::{Hex, NoRoom};
+use letters::writer::LETTER_ROOM;
+use std::alloc::{AllocError, Global};
+
+// Room for the longest letter, reserved once.
+#[derive(Drop)]
+pub struct Page {
+    pub(crate) bytes: Vec<u8>,
+    ghost room: { 98345 ≤ vec_capacity bytes },
+}
+
+impl Page {
+    pub fn new(heap: Global) -> Result<Page, AllocError> {
+        let bytes = Vec::with_capacity(heap, LETTER_ROOM)?;
+        Ok(Page { bytes })
+    }
+
+    pub fn bytes(&self) -> &[u8] {
+        self.bytes.as_slice()
+    }
+
+    // Has the bytes of a letter, and nothing else.
+    pub fn copy(&mut self, letter: &[u8]) -> Result<(), AllocError> {
+        self.bytes.clear();
+        self.bytes.extend_from_slice(letter)?;
+        Ok(())
+    }
+
+    // Has the bytes that digits write, and nothing else.
+    pub fn decode(&mut self, letter: Hex) -> Result<(), NoRoom> {
+        self.bytes.clear();
+        letter.decode(&mut self.bytes)
+    }
+}

@@ -1,0 +1,5 @@
+// A guest's slip, and the bytes that it is kept as.
+#![tactic(auto)]
+
+pub mod answers;
+pub mod slip;
