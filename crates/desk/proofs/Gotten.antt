@@ -10,7 +10,7 @@ use Rattle.console.specs.declared.answer.Got.{Got}
 use Rattle.console.specs.declared.answer.Standing.{Standing}
 use Rattle.entry_log.specs.Logs.{all_of}
 use Rattle.replica.specs.Model.{State, marks_of}
-use Rattle.desk.specs.Told.{got_in}
+use Rattle.desk.specs.Answers.{got_in}
 
 pub got_is :
     (s : State) (m : PlainMark) (outcome : PlainOutcome) (committed : Bool) (standing : Standing) (got : Got) (p : ℕ)

@@ -9,7 +9,7 @@ ghost use Rattle.console.specs.Requests.{asked_mark, raw_mark};
 ghost use Rattle.entry_log.specs.Logs.{all_of};
 ghost use Rattle.entry_log.specs.Vectors.{vector_of};
 ghost use Rattle.replica.specs.Views.{state_of};
-ghost use Rattle.desk.specs.Told.{AskedOk, GotRefused, got_in, night_told, noted_on, committed_at, ServedBy, ServeRefused};
+ghost use Rattle.desk.specs.Answers.{AskedOk, GotRefused, got_in, night_told, noted_on, committed_at, opened_of, ServedBy, ServeRefused};
 
 use bookings::book::Night;
 use bookings::entry::{Entry, Mark};
@@ -120,7 +120,9 @@ pub fn served(replica: &Replica, slip: &RawVector) -> Result<Answer, Refusal>
 }
 
 // What was opened, and how many bytes of its journal were cut off.
-pub fn opened(replica: &Replica, cut: usize) -> Answer {
+pub fn opened(replica: &Replica, cut: usize) -> Answer
+    ensures { result ≡ opened_of (state_of replica.now) cut }
+{
     let committed = replica.committed();
     let tentative = replica.entries().len().saturating_sub(committed);
     Answer::Opened {

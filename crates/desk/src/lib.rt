@@ -8,4 +8,3 @@ pub mod page;
 pub mod reply;
 pub mod says;
 pub mod station;
-pub mod texts;

@@ -2,4 +2,5 @@
 #![tactic(auto)]
 
 pub mod answers;
+pub mod laws;
 pub mod slip;

@@ -53,10 +53,10 @@ fn answer_all(rt: &HostRuntime, out: &mut impl Write, desk: &mut impl Desk) -> a
     out.flush()?;
     // A `loop` would owe a measure, and input has none: so its lines are counted.
     for _ in 0..u64::MAX {
-        let Some(line) = lines.next()? else {
+        if !lines.advance()? {
             break;
-        };
-        answer(out, desk, &mut page, line)?;
+        }
+        answer(out, desk, &mut page, lines.line())?;
         if !lines.has_more() {
             out.flush()?;
         }

@@ -42,9 +42,9 @@ fn answer(
     let answer = match read_slip_command(line) {
         Ok(command) => {
             let mut slip = store.slip();
-            let answer = ask(&mut slip, &command);
+            let told = ask(&mut slip, &command);
             store.keep(rt, slip)?;
-            answer
+            told.unwrap_or_else(|why| Some(SlipAnswer::Refused { why }))
         }
         Err(expected) => Some(SlipAnswer::Error { expected }),
     };
@@ -59,10 +59,10 @@ fn answer_all(rt: &HostRuntime, out: &mut impl Write) -> anyhow::Result<()> {
     let mut lines = Lines::new(rt.alloc(), rt.stdin())?;
     // A `loop` would owe a measure, and input has none: so its lines are counted.
     for _ in 0..u64::MAX {
-        let Some(line) = lines.next()? else {
+        if !lines.advance()? {
             break;
-        };
-        answer(rt, out, &mut store, line)?;
+        }
+        answer(rt, out, &mut store, lines.line())?;
         if !lines.has_more() {
             out.flush()?;
         }

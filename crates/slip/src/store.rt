@@ -48,7 +48,7 @@ impl Store {
 
     fn replace(&self, rt: &HostRuntime, slip: &Slip) -> io::Result<()> {
         let mut file = File::create(rt, NEXT)?;
-        file.write_all(&slip.bytes())?;
+        file.write_all(slip.bytes(rt.alloc())?.as_slice())?;
         file.sync_all()?;
         fs::rename(rt, NEXT, PATH)?;
         self.folder.sync_all()

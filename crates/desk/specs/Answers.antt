@@ -54,3 +54,8 @@ ServedBy s slip a = StampsFit slip × (serves slip s ≡ true) × ((v : Vector) 
 -- refused by 2 where the slip is out of range, and by 7 where it knows more
 abbrev pub ServeRefused : State → List ℕ → ℕ → Type 0
 ServeRefused s slip n = ((n ≡ 2) × (StampsFit slip → ⊥)) ⊎ (StampsFit slip × (n ≡ 7) × (serves slip s ≡ false))
+
+-- how many entries a replica has, when it is opened, and how many bytes were cut off
+abbrev pub opened_of : State → ℕ → Answer
+opened_of s bytes =
+    answers.Opened (record { hut = s.hut; committed = length s.log.committed; tentative = length s.log.tentative; cut = bytes })
