@@ -1,5 +1,8 @@
 -- Stamps and the bytes that they are kept as.
-use Rattle.std.proofs.Common.{◌≡◌, ℕ, zero, suc, ◌+◌, ◌*◌, ◌/◌, ◌%◌, ◌^◌, ◌<◌, List, [], ◌∷◌, ◌++◌, length, get_or, take, drop, refl, ap, ◌∙◌, add-one, arith}
+use Rattle.std.proofs.Common.{◌≡◌, ℕ, zero, suc, ◌+◌, ◌*◌, ◌/◌, ◌%◌, ◌^◌, ◌<◌, List, [], ◌∷◌, ◌++◌, length, get_or, set, take, drop, ⊎_elim, refl, sym, ap, ◌∙◌, add-one, arith}
+use Rattle.std.proofs.lemmas.Bool.{cases_lt}
+use Rattle.std.proofs.lemmas.Grind.{get_or-set_at}
+use Rattle.std.proofs.lemmas.List.{get_or-set_other}
 use Rattle.std.specs.Prelude.{All}
 use Rattle.std.specs.List.{flat_map}
 use Rattle.letters.specs.Format.{four, number_of_four}
@@ -53,3 +56,11 @@ bytes_back (s ∷ ss) (a ∷ b ∷ c ∷ d ∷ bs) long small each =
     bytes_back ss bs (omega arith) (λ k. small (suc (suc (suc (suc k)))))
     (λ h lt. let on : 4 * suc h ≡ suc (suc (suc (suc (4 * h)))) = omega arith in each (suc h) (omega arith) ∙ rw on refl) in
     ap (λ xs. xs ++ slip_bytes ss) front ∙ ap {B = List ℕ} (λ xs. a ∷ b ∷ c ∷ d ∷ xs) rest
+
+-- the stamps of the first i huts are right, and so is the next one
+pub one_more :
+    (F : ℕ → ℕ) (ss : List ℕ) (i s : ℕ) → i < length ss → ((h : ℕ) → h < i → get_or ss h 0 ≡ F h) → s ≡ F i
+    → (h : ℕ) → h < i + 1 → get_or (set ss i s) h 0 ≡ F h
+one_more F ss i s in-range each is h lt =
+    ⊎_elim (λ before. get_or-set_other ss i h s 0 (λ same. omega (arith, before, same)) ∙ each h before)
+    (λ after. let same : h ≡ i = omega (arith, lt, after) in get_or-set_at ss i h s 0 same in-range ∙ is ∙ ap F (sym same)) (cases_lt h i)
