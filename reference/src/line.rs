@@ -26,6 +26,7 @@ pub enum Command {
     Again(u64, u64),
     Cut(u64, u64, u64),
     Stop(u64, u64),
+    Help,
 }
 
 impl Command {
@@ -65,6 +66,7 @@ impl Command {
             (b"again", [letter, to]) => Command::Again(*letter, *to),
             (b"cut", [letter, to, kept]) => Command::Cut(*letter, *to, *kept),
             (b"stop", [hut, kept]) => Command::Stop(*hut, *kept),
+            (b"help", []) => Command::Help,
             _ => return None,
         })
     }

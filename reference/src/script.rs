@@ -7,6 +7,28 @@ use crate::line::{Command, Make};
 use crate::log::Vector;
 use std::fmt::Write;
 
+/// The forms of all commands: those of a rehearsal, then those of a hut.
+const FORMS: &str = "huts, then one to four huts
+at I
+walk I J
+lose I J
+again K J
+cut K J N
+stop I N
+book G, then up to four choices H N K B
+cancel S H
+change S H, then up to four choices H N K B
+beds H N K B
+ink
+have
+letter C S0 .. S15
+take HEX
+show, or show H N
+line
+got S H
+serve S0 .. S15
+help";
+
 /// Why a line is not done.
 pub enum Trouble {
     Misplaced(&'static str),
@@ -150,6 +172,7 @@ impl Script {
                 }
                 self.say(&line);
             }
+            Command::Help => self.say(FORMS),
         }
         Ok(())
     }
