@@ -29,5 +29,9 @@ pub fn read_hut(word: &[u8]) -> Option<u8>
 {
     let number = read_number(word)?;
     // Less than 16: `try_from` would add an error that cannot come.
-    if number < 16 { Some(number as u8) } else { None }
+    if number < 16 {
+        Some(number as u8)
+    } else {
+        None
+    }
 }

@@ -54,9 +54,9 @@ pub fn ask<D: Desk>(
 // A refusal is told too; what else went wrong is not.
 pub fn or_refused(asked: Result<Reply, Unplayed>) -> Result<Reply, Unplayed>
     ensures { MatchResult asked (λ r. result ≡ Ok r) (λ e. elim e [
-        | Memory ↦ result ≡ Err Memory
-        | Refused w ↦ result ≡ Ok (Line (RefusedAnswer w))
-        | Failed f ↦ result ≡ Err (Failed f)
+      | Memory ↦ result ≡ Err Memory
+      | Refused w ↦ result ≡ Ok (Line (RefusedAnswer w))
+      | Failed f ↦ result ≡ Err (Failed f)
     ]) }
 {
     match asked {

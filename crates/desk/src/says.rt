@@ -44,8 +44,7 @@ pub fn say<D: Desk, W: Write>(out: &mut W, desk: &D, page: &Page, reply: Reply) 
 fn lent<D: Desk>(desk: &D) -> io::Result<&Replica>
     ensures { IfOk result (λ p. state_of p.now ≡ D.state desk.now) }
 {
-    desk.shown()
-        .ok_or(io::Error::from(ErrorKind::ResourceBusy))
+    desk.shown().ok_or(io::Error::from(ErrorKind::ResourceBusy))
 }
 
 fn say_line<W: Write>(out: &mut W, answer: Answer) -> io::Result<()>

@@ -35,7 +35,7 @@ fn main(rt: HostRuntime) -> ExitCode {
         Ok(()) => ExitCode::SUCCESS,
         Err(why) => {
             // Where that fails too, nothing can be said.
-            let _ = eprintln!(rt; "error: {why}");
+            let _ = eprintln!(rt; "error: {why:#}");
             ExitCode::FAILURE
         }
     }

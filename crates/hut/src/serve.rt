@@ -4,7 +4,7 @@ use console::answer::Answer;
 use console::input::Lines;
 use console::line::read_hut_command;
 use desk::answers::opened;
-use desk::asks::ask;
+use desk::asks::{ask, or_refused};
 use desk::calls::Desk;
 use desk::page::Page;
 use desk::reply::Reply;
@@ -12,7 +12,7 @@ use desk::says::say;
 use desk::station::Station;
 use journal::disk::find;
 use journal::keeper::Keeper;
-use std::fs::{File, OpenOptions};
+use std::fs::{File, OpenOptions, TryLockError};
 use std::io::Write;
 
 const FOLDER: &str = ".";
@@ -26,10 +26,11 @@ fn hold(rt: &HostRuntime) -> anyhow::Result<File> {
     let file = how
         .open(rt, PATH)
         .context("the file `line` cannot be opened")?;
-    if file.try_lock().is_err() {
-        bail!("another `hut` runs in this folder");
+    match file.try_lock() {
+        Ok(()) => Ok(file),
+        Err(TryLockError::WouldBlock) => bail!("another `hut` runs in this folder"),
+        Err(TryLockError::Error(why)) => Err(why).context("the file `line` cannot be locked"),
     }
-    Ok(file)
 }
 
 pub fn serve(rt: &HostRuntime, out: &mut impl Write, hut: u8) -> anyhow::Result<()> {
@@ -73,7 +74,7 @@ fn answer(
 ) -> anyhow::Result<()> {
     let asked = read_hut_command(line);
     let reply = match asked.command {
-        Ok(command) => ask(desk, page, &command, asked.letter)?,
+        Ok(command) => or_refused(ask(desk, page, &command, asked.letter))?,
         Err(expected) => Reply::Line(Answer::Error { expected }),
     };
     say(out, desk, page, reply)?;

@@ -1,7 +1,7 @@
 // The file of a slip.
 use anyhow::{Context, bail};
 use guest::slip::Slip;
-use std::fs::File;
+use std::fs::{File, TryLockError};
 use std::io::{ErrorKind, Write};
 use std::{fs, io};
 
@@ -21,8 +21,12 @@ impl Store {
     // No file is the slip of a guest who knows nothing.
     pub fn open(rt: &HostRuntime) -> anyhow::Result<Store> {
         let folder = File::open(rt, ".").context("the folder cannot be opened")?;
-        if folder.try_lock().is_err() {
-            bail!("another `slip` runs in this folder");
+        match folder.try_lock() {
+            Ok(()) => {}
+            Err(TryLockError::WouldBlock) => bail!("another `slip` runs in this folder"),
+            Err(TryLockError::Error(why)) => {
+                return Err(why).context("the folder cannot be locked");
+            }
         }
         let slip = match fs::read(rt, PATH) {
             Ok(bytes) => Slip::read(bytes.as_slice()).context("the file `slip` is left as it is")?,

@@ -8,7 +8,7 @@ pub loop-outcome-init : goal.loop-outcome-init
 loop-outcome-init g c = begun _ _ (texts_none outcome_line 0)
 
 pub loop-outcome-preserved : goal.loop-outcome-preserved
-loop-outcome-preserved g c = 
+loop-outcome-preserved g c =
     gone_on _ _ _ _ _ _ c.loop-outcome.invariant c.in_ok-say_taking.ensures
     (ap (λ t. texts outcome_line 0 (take c.loop-outcome.outcome-index c.args.outcomes.now) ++ line_of (Take t)) c.taking.ensures
     ∙ texts_more outcome_line c.args.outcomes.now c.loop-outcome.outcome-index _ _ c.loop-outcome-test.true c.outcome-item.is)

@@ -6,8 +6,7 @@ use Rattle.guest.proofs.slip.Slip.read.Goals as goal
 
 pub loop-hut-preserved : goal.loop-hut-preserved
 loop-hut-preserved c =
-    let kept = c.loop-hut.invariant in
-    (
+    let kept = c.loop-hut.invariant in (
       search (rules, kept.0),
       one_more (λ h. number_of_four (drop (4 * h) c.args.bytes.now)) _ _ _ (omega (arith, kept.0, c.loop-hut-test.true)) kept.1 c.stamp_at.ensures,
     )
