@@ -1,1 +1,2 @@
 pub mod Gotten
+pub mod Sending

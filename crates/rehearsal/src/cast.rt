@@ -5,6 +5,7 @@ use network::rehearsal::Rehearsal;
 
 mod carries;
 mod plays;
+mod reads;
 
 #[derive(Drop)]
 pub struct Cast {
