@@ -1,11 +1,13 @@
 -- A letter is written for what another hut has.
-use Rattle.std.proofs.Common.{◌≡◌, ◌<◌, ◌⊎◌, ℕ, List, [], ◌∷◌, ◌++◌, Option, None, MatchOption, get_or, length, vec_items, vec_len, ⊎_elim, refl, sym, ap, subst, ◌∙◌, append_assoc, arith}
+use Rattle.std.proofs.Common.{◌≡◌, ◌<◌, ◌⊎◌, ℕ, true, List, [], ◌∷◌, ◌++◌, Option, None, MatchOption, get_or, length, vec_items, vec_len, ⊎_elim, refl, sym, ap, subst, ◌∙◌, append_assoc, arith}
 use Rattle.std.specs.Global.{Vec}
+use Rattle.std.proofs.lemmas.Bool.{true≢false}
 use Rattle.std.proofs.lemmas.List.{get_or_default, length-map}
 use Rattle.network.specs.Casts.{Absent}
 use Rattle.entry_log.specs.Logs.{all_of}
 use Rattle.entry_log.specs.Vectors.{vector_of}
 use Rattle.journal.specs.History.{state_in, synced}
+use Rattle.journal.specs.Phases.{is_synced}
 use Rattle.network.proofs.Stages.{put_here, state_here}
 use Rattle.network.proofs.Stands.{after_sync}
 use Rattle.network.specs.Net.{Event, Net, Syncs, Writes, after, huts}
@@ -19,6 +21,12 @@ use Rattle.rehearsal.specs.Carrying.{CanSend, PlacedAt, sends}
 some_hut : (qs : List Hut) (p : ℕ) → p < length qs → Hut
 some_hut [] p within = absurd (omega (arith, within))
 some_hut (q ∷ qs) p within = q
+
+-- a replica that is synced does not wait to be
+pub not_unsynced :
+    (qs : List Hut) (p : ℕ) → p < length qs → ((q : Hut) → is_synced (get_or qs p q).journal.phase ≡ true) → Unsynced qs p → ⊥
+not_unsynced qs p within synced-is unsynced =
+    let q = some_hut qs p within in true≢false (sym (synced-is q) ∙ unsynced q)
 
 low : (s : Stage) (es : List Event) (hut p : ℕ) → Stands s es → PlacedAt (huts_of s) hut p → hut < huts
 low s es hut p stands there = subst (λ (h : ℕ). h < huts) there.1 (stands.follows.small p there.0)
