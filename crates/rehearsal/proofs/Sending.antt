@@ -1,7 +1,7 @@
 -- A letter is written for what another hut has.
 use Rattle.std.proofs.Common.{◌≡◌, ◌<◌, ◌≤◌, ◌⊎◌, ℕ, true, List, [], ◌∷◌, ◌++◌, Option, None, MatchOption, get_or, length, vec_items, vec_len, ⊎_elim, inl, inr, refl, sym, ap, subst, ◌∙◌, append-nil, append_assoc, arith}
 use Rattle.std.specs.Global.{Vec}
-use Rattle.std.proofs.lemmas.Bool.{false≢true}
+use Rattle.std.proofs.lemmas.Bool.{true≢false}
 use Rattle.std.proofs.lemmas.List.{get_or_default, length-map}
 use Rattle.entry_log.specs.Logs.{all_of}
 use Rattle.entry_log.specs.Vectors.{vector_of}
@@ -20,6 +20,12 @@ use Rattle.rehearsal.specs.Carrying.{PlacedAt, sends}
 some_hut : (qs : List Hut) (p : ℕ) → p < length qs → Hut
 some_hut [] p within = absurd (omega (arith, within))
 some_hut (q ∷ qs) p within = q
+
+-- a replica that is synced does not wait to be
+pub not_unsynced :
+    (qs : List Hut) (p : ℕ) → p < length qs → ((q : Hut) → is_synced (get_or qs p q).journal.phase ≡ true) → Unsynced qs p → ⊥
+not_unsynced qs p within synced-is unsynced =
+    let q = some_hut qs p within in true≢false (sym (synced-is q) ∙ unsynced q)
 
 low : (s : Stage) (es : List Event) (hut p : ℕ) → Stands s es → PlacedAt (huts_of s) hut p → hut < huts
 low s es hut p stands there = subst (λ (h : ℕ). h < huts) there.1 (stands.follows.small p there.0)
@@ -62,7 +68,7 @@ pub shows_synced :
     {X : Type 0} (s : Stage) (p : ℕ) (r : Option X) (P : X → Type 0) → p < length (huts_of s)
     → ((q : Hut) → is_synced (get_or (huts_of s) p q).journal.phase ≡ true) → r ≡ None → MatchOption r ((length (huts_of s) ≤ p) ⊎ Unsynced (huts_of s) p) P → ⊥
 shows_synced s p r P within synced none told =
-    ⊎_elim (λ behind. omega (arith, within, behind)) (λ not. false≢true (sym (not (some_hut (huts_of s) p within)) ∙ synced (some_hut (huts_of s) p within)))
+    ⊎_elim (λ behind. omega (arith, within, behind)) (not_unsynced (huts_of s) p within synced)
     (subst (λ x. MatchOption x ((length (huts_of s) ≤ p) ⊎ Unsynced (huts_of s) p) P) none told)
 
 -- where no letter is written the sender is as it was, or synced
