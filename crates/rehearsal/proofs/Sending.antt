@@ -1,5 +1,5 @@
 -- A letter is written for what another hut has.
-use Rattle.std.proofs.Common.{◌≡◌, ◌<◌, ◌≤◌, ◌⊎◌, ℕ, true, List, [], ◌∷◌, ◌++◌, Option, None, MatchOption, get_or, length, vec_items, vec_len, ⊎_elim, inl, inr, refl, sym, ap, subst, ◌∙◌, append-nil, append_assoc, arith}
+use Rattle.std.proofs.Common.{◌≡◌, ◌<◌, ◌≤◌, ◌⊎◌, ℕ, true, List, [], ◌∷◌, ◌++◌, Option, None, MatchOption, Result, Ok, Err, MatchResult, OnOk, get_or, length, vec_items, vec_len, ⊎_elim, inl, inr, refl, sym, ap, subst, ◌∙◌, append-nil, append_assoc, arith}
 use Rattle.std.specs.Global.{Vec}
 use Rattle.std.proofs.lemmas.Bool.{true≢false}
 use Rattle.std.proofs.lemmas.List.{get_or_default, length-map}
@@ -22,10 +22,16 @@ some_hut [] p within = absurd (omega (arith, within))
 some_hut (q ∷ qs) p within = q
 
 -- a replica that is synced does not wait to be
-pub not_unsynced :
+not_unsynced :
     (qs : List Hut) (p : ℕ) → p < length qs → ((q : Hut) → is_synced (get_or qs p q).journal.phase ≡ true) → Unsynced qs p → ⊥
 not_unsynced qs p within synced-is unsynced =
     let q = some_hut qs p within in true≢false (sym (synced-is q) ∙ unsynced q)
+
+pub once_synced :
+    {X E : Type 0} (qs : List Hut) (p : ℕ) (r : Result X E) → p < length qs
+    → MatchResult r (λ _. (q : Hut) → is_synced (get_or qs p q).journal.phase ≡ true) (λ _. Unit {0}) → OnOk r (Unsynced qs p → ⊥)
+once_synced qs p (Ok x) within said = not_unsynced qs p within said
+once_synced qs p (Err e) within said = tt
 
 low : (s : Stage) (es : List Event) (hut p : ℕ) → Stands s es → PlacedAt (huts_of s) hut p → hut < huts
 low s es hut p stands there = subst (λ (h : ℕ). h < huts) there.1 (stands.follows.small p there.0)
