@@ -9,7 +9,7 @@ use Rattle.network.specs.Stages.{huts_of, hut_at}
 use Rattle.network.specs.Stands.{Stands}
 use Rattle.replica.specs.Model.{State}
 use Rattle.rehearsal.specs.Carrying.{PlacedAt}
-use Rattle.rehearsal.proofs.Sending.{next_letter, sent_for, shows_synced, unsent}
+use Rattle.rehearsal.proofs.Sending.{sent_for, shows_synced, unsent}
 use Rattle.rehearsal.proofs.cast.Cast.send.Goals as goal
 
 pub returns-in_err-sender-clause-promised : goal.returns-in_err-sender-clause-promised
