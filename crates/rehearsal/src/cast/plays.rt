@@ -8,9 +8,10 @@ ghost use Rattle.network.specs.Acts.{Told, Denied, writes, comes_of};
 ghost use Rattle.network.specs.Casts.{Absent, CastOk, Opens};
 ghost use Rattle.network.specs.Net.{Event};
 ghost use Rattle.network.specs.Reached.{Promises};
-ghost use Rattle.network.specs.Stages.{Follows, Unwritten, bytes_sent, hut_at, huts_of};
+ghost use Rattle.network.specs.Stages.{Follows, Unsynced, Unwritten, bytes_sent, hut_at, huts_of};
 ghost use Rattle.network.specs.Stands.{Stands, Went};
 ghost use Rattle.network.specs.Taking.{Reports};
+ghost use Rattle.network.specs.declared.act.Act.TheVariants as acts;
 ghost use Rattle.network.specs.declared.unplayed.Unplayed.TheVariants.{Memory, Refused, Failed};
 ghost use Rattle.rehearsal.specs.Carrying.{heard_at};
 
@@ -31,6 +32,7 @@ impl Cast {
     {
         let rehearsal = Rehearsal::new(heap, huts)?;
         Ok(Cast {
+            heap,
             rehearsal,
             current: 0,
             carried: Vec::new(heap),
@@ -69,6 +71,7 @@ impl Cast {
             (λ bs. Reports self.new.rehearsal.stage.report (read_letter bs) (kept (hut_at (huts_of self.old.rehearsal.stage) self.old.current)))) }
         ensures promised { self.new.rehearsal.forged ≡ false → Promises self.new.rehearsal.stage }
         ensures forged { self.new.rehearsal.forged ≡ self.old.rehearsal.forged }
+        ensures clean { act.now ≡ acts.Sync → OnOk result (Unsynced (huts_of self.new.rehearsal.stage) self.new.current → ⊥) }
         ensures current { self.new.current ≡ self.old.current }
         ensures carried { self.new.carried ≡ self.old.carried }
     {
