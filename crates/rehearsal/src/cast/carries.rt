@@ -1,5 +1,5 @@
 // Letters are carried from hut to hut, and huts crash.
-ghost use Rattle.std.specs.Prelude.{◌≡◌, ℕ, ◌<◌, ◌⊎◌, true, false, List, [], ◌∷◌, ◌++◌, length, take, vec_len, MatchOption, MatchResult, OnErr, OnOk};
+ghost use Rattle.std.specs.Prelude.{◌≡◌, ℕ, ◌⊎◌, true, false, List, [], ◌∷◌, ◌++◌, length, take, vec_len, MatchOption, MatchResult, OnErr, OnOk};
 ghost use Rattle.bookings.specs.Refusals.{number_of};
 ghost use Rattle.journal.specs.History.{Kept};
 ghost use Rattle.letters.specs.Letters.{read_letter};
