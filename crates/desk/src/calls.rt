@@ -2,7 +2,6 @@
 ghost use Rattle.std.specs.Prelude.{◌≡◌, ℕ, true, false, List, None, Some, Option, MatchOption, MatchResult};
 ghost use Rattle.std.specs.Option.{option_map};
 ghost use Rattle.bookings.specs.Plain.{plain_kind, plain_mark};
-ghost use Rattle.bookings.specs.Refusals.{number_of};
 ghost use Rattle.desk.specs.Failures.{Undone, Unwritten};
 ghost use Rattle.entry_log.specs.Logs.{first_mark};
 ghost use Rattle.network.specs.declared.outcome.Outcome.{Outcome};

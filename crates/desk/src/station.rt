@@ -1,13 +1,12 @@
 // A replica over its journal, with all that its lines need.
-ghost use Rattle.std.specs.Prelude.{◌≡◌, ℕ, true, false, List, [], None, Some, Option, IfOk, MatchOption, MatchResult};
+ghost use Rattle.std.specs.Prelude.{◌≡◌, true, false, [], Some, IfOk, MatchOption, MatchResult};
 ghost use Rattle.std.specs.Option.{option_map};
 ghost use Rattle.bookings.specs.Plain.{plain_kind, plain_mark};
-ghost use Rattle.bookings.specs.Refusals.{number_of};
 ghost use Rattle.desk.specs.Failures.{Undone, Unwritten};
 ghost use Rattle.desk.specs.Steps.{Leaves};
 ghost use Rattle.entry_log.specs.Logs.{first_mark};
 ghost use Rattle.journal.specs.History.{Kept, synced, makes, commits};
-ghost use Rattle.journal.specs.Keeping.{InStep, Moves, Lasts, state_by};
+ghost use Rattle.journal.specs.Keeping.{InStep, Moves, state_by};
 ghost use Rattle.letters.specs.Letters.{encode_letter, read_letter};
 ghost use Rattle.network.specs.Taking.{Reports, letter_for, take_bytes};
 ghost use Rattle.replica.specs.Model.{make_refusal, next_mark, is_primary};

@@ -1,8 +1,6 @@
 // What a line does to a slip, and what is told.
-ghost use Rattle.std.specs.Prelude.{◌≡◌, Some, Option, true, MatchResult};
+ghost use Rattle.std.specs.Prelude.{◌≡◌, MatchResult};
 ghost use Rattle.bookings.specs.Refusals.{number_of};
-ghost use Rattle.console.specs.Checks.{StampsFit};
-ghost use Rattle.console.specs.declared.slip.SlipAnswer.TheVariants as answers;
 ghost use Rattle.console.specs.declared.slip.SlipCommand.TheVariants as commands;
 ghost use Rattle.guest.specs.Answers.{Told, Refused};
 
