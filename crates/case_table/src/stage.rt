@@ -2,11 +2,11 @@
 use anyhow::anyhow;
 use bookings::entry::{Kind, Mark};
 use console::mark::RawMark;
+use desk::answers;
 use entry_log::vector::Vector;
 use network::act::{Act, Done};
 use network::outcome::Outcome;
 use network::rehearsal::Rehearsal;
-use desk::answers;
 use replica::replica::Replica;
 use replica::summary::Summary;
 

@@ -1,5 +1,5 @@
 -- What is told of a line, by what the replica knew before it and what it knows then.
-use Rattle.std.specs.Prelude.{◌≡◌, ℕ, ◌-◌, ◌<◌, true, false, ◌⊎◌, List, length, None, Some, Option}
+use Rattle.std.specs.Prelude.{◌≡◌, ℕ, ◌-◌, ◌<◌, true, false, ◌⊎◌, length, None, Some}
 use Rattle.bookings.specs.Books.{book_of}
 use Rattle.bookings.specs.Refusals.{number_of}
 use Rattle.bookings.specs.declared.refusal.Refusal.TheVariants.{Damaged}

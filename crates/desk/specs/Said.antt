@@ -1,5 +1,5 @@
 -- The lines that are written for what is told.
-use Rattle.std.specs.Prelude.{ℕ, zero, suc, ◌+◌, ◌-◌, Bool, true, false, cond, List, [], ◌∷◌, ◌++◌, length, count_by, None, Some, Option, ◌==◌, nat_lt}
+use Rattle.std.specs.Prelude.{ℕ, zero, suc, ◌+◌, ◌-◌, Bool, true, false, cond, List, [], ◌∷◌, ◌++◌, length, count_by, None, Some, Option, nat_lt}
 use Rattle.bookings.specs.Books.{PlainBook, book_of}
 use Rattle.bookings.specs.Plain.{PlainKind, book, cancel, change, supply, PlainEntry, plain_mark}
 use Rattle.bookings.specs.declared.refusal.Refusal.TheVariants.{Damaged, OutOfRange}

@@ -1,6 +1,5 @@
 -- What a call leaves that is not done.
 use Rattle.std.specs.Prelude.{ℕ, List}
-use Rattle.journal.specs.History.{Kept}
 use Rattle.journal.specs.Keeping.{Moves, Lasts}
 use Rattle.journal.specs.declared.keeper.Keeper.{Keeper}
 use Rattle.network.specs.declared.unplayed.Unplayed.{Unplayed}

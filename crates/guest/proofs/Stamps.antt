@@ -4,7 +4,6 @@ use Rattle.std.proofs.lemmas.Bool.{cases_lt}
 use Rattle.std.proofs.lemmas.Grind.{get_or-set_at}
 use Rattle.std.proofs.lemmas.List.{get_or-set_other}
 use Rattle.std.specs.Prelude.{All}
-use Rattle.std.specs.List.{flat_map}
 use Rattle.letters.specs.Format.{four, number_of_four}
 use Rattle.letters.proofs.Bytes.{four_back}
 use Rattle.guest.specs.Slips.{slip_bytes}

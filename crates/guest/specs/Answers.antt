@@ -1,5 +1,5 @@
 -- What is told of a line of a slip.
-use Rattle.std.specs.Prelude.{◌≡◌, ◌≢◌, ℕ, true, false, ◌⊎◌, List, None, Some, Option}
+use Rattle.std.specs.Prelude.{◌≡◌, ℕ, true, false, ◌⊎◌, None, Some, Option}
 use Rattle.console.specs.Checks.{StampsFit}
 use Rattle.console.specs.declared.slip.SlipAnswer.{SlipAnswer}
 use Rattle.console.specs.declared.slip.SlipAnswer.TheVariants as answers
