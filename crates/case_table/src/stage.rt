@@ -6,7 +6,7 @@ use entry_log::vector::Vector;
 use network::act::{Act, Done};
 use network::outcome::Outcome;
 use network::rehearsal::Rehearsal;
-use rehearsal::answers;
+use desk::answers;
 use replica::replica::Replica;
 use replica::summary::Summary;
 

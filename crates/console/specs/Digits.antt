@@ -9,3 +9,11 @@ digits_after n (b ∷ bs) = cond (nat_lt b 48) None (cond (nat_lt 57 b) None (di
 -- the number that a word writes by 1 to 10 digits
 abbrev pub number_of : List ℕ → Option ℕ
 number_of w = cond (length w == 0) None (cond (nat_lt 10 (length w)) None (digits_after 0 w))
+
+abbrev pub below_16 : Option ℕ → Option ℕ
+below_16 None = None
+below_16 (Some n) = cond (nat_lt n 16) (Some n) None
+
+-- the number of a hut that a word writes
+abbrev pub hut_of : List ℕ → Option ℕ
+hut_of w = below_16 (number_of w)

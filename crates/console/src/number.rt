@@ -1,6 +1,6 @@
 // A word as a number.
 ghost use Rattle.std.specs.Prelude.{◌≡◌, ◌-◌, ◌<◌, ◌≤◌, ◌⊎◌, MatchOption};
-ghost use Rattle.console.specs.Digits.{number_of};
+ghost use Rattle.console.specs.Digits.{number_of, hut_of};
 
 // The number that a word writes by 1 to 10 decimal digits.
 pub fn read_number(word: &[u8]) -> Option<u64>
@@ -21,4 +21,17 @@ fn digit(b: u8) -> Option<u64>
 {
     let value = char::from(b).to_digit(10)?;
     Some(u64::from(value))
+}
+
+// The number of a hut that a word writes.
+pub fn read_hut(word: &[u8]) -> Option<u8>
+    ensures { result ≡ hut_of word.now }
+{
+    let number = read_number(word)?;
+    // Less than 16: `try_from` would add an error that cannot come.
+    if number < 16 {
+        Some(number as u8)
+    } else {
+        None
+    }
 }

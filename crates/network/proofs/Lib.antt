@@ -1,5 +1,6 @@
 pub mod Agree
 pub mod Alone
+mod Cases
 pub mod Exchange
 pub mod Fetch
 pub mod Gather

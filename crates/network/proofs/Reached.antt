@@ -9,7 +9,7 @@ use Rattle.journal.specs.History.{Kept}
 use Rattle.letters.specs.Letters.{Heard, damaged, heard, read_letter}
 use Rattle.network.specs.Net.{Event}
 use Rattle.network.specs.Reached.{Followed, Reached, Promises}
-use Rattle.network.specs.Stages.{Follows, Never, Turns, Unwritten, bytes_sent, huts_of}
+use Rattle.network.specs.Stages.{Follows, Never, Turns, Unwritten, bytes_sent, huts_of, SameHuts}
 use Rattle.network.specs.Taking.{take_bytes, told_out}
 use Rattle.network.specs.Stands.{Stands, Went}
 use Rattle.network.specs.declared.act.Act.{Act}
@@ -38,6 +38,11 @@ went_reached s t i act r went reached = ∥∥₁_map reached (λ w. let on = we
 pub went_followed :
     (s t : Stage) → ((kept : ℕ → Kept) → Follows (huts_of s) kept → (now : ℕ → Kept) × Follows (huts_of t) now) → Followed s → Followed t
 went_followed s t on followed = ∥∥₁_map followed (λ w. on w.0 w.1)
+
+-- no replica has another place
+pub went_huts :
+    (s t : Stage) → ((kept : ℕ → Kept) → Follows (huts_of s) kept → SameHuts (huts_of s) (huts_of t)) → Followed s → SameHuts (huts_of s) (huts_of t)
+went_huts s t on followed j = ∥∥₁_elim followed (hlevel props) (λ w. on w.0 w.1 j)
 
 -- what a report says of whether there was a letter
 told_none : (h : Heard) → not (is_some (told_out h)) ≡ true → h ≡ damaged

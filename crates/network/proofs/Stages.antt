@@ -20,7 +20,7 @@ use Rattle.letters.specs.Items.{items_of}
 use Rattle.letters.specs.Letters.{read_letter}
 use Rattle.network.specs.Taking.{take_bytes}
 use Rattle.network.specs.Items.{Letter, items_taken, takes}
-use Rattle.network.specs.Stages.{Hut, Follows, Turns, Unmoved, Never, state_at, hut_at, part_of, Unwritten}
+use Rattle.network.specs.Stages.{Hut, Follows, SameHuts, Turns, Unmoved, Never, state_at, hut_at, part_of, Unwritten}
 use Rattle.network.specs.declared.unplayed.Unplayed.{Unplayed}
 use Rattle.network.specs.declared.unplayed.Unplayed.TheVariants as unplayed
 use Rattle.network.proofs.Refusals.{unless_by}
@@ -63,20 +63,22 @@ module _ (qs : List Hut) (i : ℕ) (q p : Hut) (kept : ℕ → Kept) (within : i
   -- one replica is in step with what is kept of its hut now, and so are the others with what was kept of theirs
   pub followed :
       (k : Kept) → k.hut ≡ (kept (hut_at qs i)).hut → vec_capacity q.journal.medium.held ≤ vec_capacity p.journal.medium.held → InStep InMemory p k
-      → Follows (set qs i p) (put (hut_at qs i) k kept)
-  followed k own room step =
-      record {
-        in_step = λ j r inside. rw (names j) (elim (cases_eq j i) [
-          | inl here ↦ rw (get_or-set_at qs i j p r here within, put_here (hut_at qs i) (hut_at qs j) k kept (ap (hut_at qs) here)) step
-          | inr other ↦ rw (get_or-set_other qs i j p r other, put_elsewhere (hut_at qs i) (hut_at qs j) k kept (λ e. other (follows.differ j i (low j inside) within e))) (follows.in_step j r (low j inside))
-        ]);
-        room = λ j r inside. elim (cases_eq j i) [
-          | inl here ↦ rw (get_or-set_at qs i j p r here within) (let had = subst (λ (t : Hut). most_bytes < vec_capacity t.journal.medium.held) (sym is) (follows.room i q within) in omega (arith, room, had))
-          | inr other ↦ rw (get_or-set_other qs i j p r other) (follows.room j r (low j inside))
-        ];
-        small = λ j inside. rw (names j) (follows.small j (low j inside));
-        differ = λ j l inside there e. follows.differ j l (low j inside) (low l there) (sym (names j) ∙ e ∙ names l);
-      }
+      → Follows (set qs i p) (put (hut_at qs i) k kept) × SameHuts qs (set qs i p)
+  followed k own room step = (
+    record {
+      in_step = λ j r inside. rw (names j) (elim (cases_eq j i) [
+        | inl here ↦ rw (get_or-set_at qs i j p r here within, put_here (hut_at qs i) (hut_at qs j) k kept (ap (hut_at qs) here)) step
+        | inr other ↦ rw (get_or-set_other qs i j p r other, put_elsewhere (hut_at qs i) (hut_at qs j) k kept (λ e. other (follows.differ j i (low j inside) within e))) (follows.in_step j r (low j inside))
+      ]);
+      room = λ j r inside. elim (cases_eq j i) [
+        | inl here ↦ rw (get_or-set_at qs i j p r here within) (let had = subst (λ (t : Hut). most_bytes < vec_capacity t.journal.medium.held) (sym is) (follows.room i q within) in omega (arith, room, had))
+        | inr other ↦ rw (get_or-set_other qs i j p r other) (follows.room j r (low j inside))
+      ];
+      small = λ j inside. rw (names j) (follows.small j (low j inside));
+      differ = λ j l inside there e. follows.differ j l (low j inside) (low l there) (sym (names j) ∙ e ∙ names l);
+    },
+    names,
+  )
     where
       low : (j : ℕ) → j < length (set qs i p) → j < length qs
       low j inside = omega (arith, inside, length-set qs i p)

@@ -16,7 +16,7 @@ use Rattle.replica.specs.declared.summary.Summary.{Summary}
 use Rattle.replica.specs.Parcels.{parcel_for}
 use Rattle.network.specs.Items.{Letter, items_taken, words_for}
 use Rattle.network.specs.Net.{Event, Makes, Commits, Syncs, Writes, Takes, Damaged, Crashes, Net, after, among, huts, put, send, step, take_nth, with_hut}
-use Rattle.network.specs.Stages.{Follows, Hut, Turns, Unmoved, state_at, hut_at, huts_of, bytes_for, bytes_sent}
+use Rattle.network.specs.Stages.{Follows, Hut, SameHuts, Turns, Unmoved, state_at, hut_at, huts_of, bytes_for, bytes_sent}
 use Rattle.network.specs.Stands.{Comes, Means, Stands, Went}
 use Rattle.network.specs.Taking.{letter_for, take_bytes}
 use Rattle.network.specs.declared.act.Act.{Act}
@@ -155,12 +155,12 @@ module _ (s t : Stage) (i : ℕ) (within : i < length (huts_of s)) (es : List Ev
   pub on :
       (more : List Event) (step : Kept → Kept) → after (es ++ more) ≡ with_hut h (step (kept h)) (after es) → bytes_sent t ≡ bytes_sent s → Turns (huts_of s) (huts_of t) i step
       → Stands t (es ++ more)
-  on more step is letters turns = stands_on s t es more h (step (kept h)) is (turns kept stands.follows) letters stands
+  on more step is letters turns = stands_on s t es more h (step (kept h)) is (turns kept stands.follows).0 letters stands
 
   still_or_synced :
       bytes_sent t ≡ bytes_sent s → Turns (huts_of s) (huts_of t) i (λ k. k) ⊎ Turns (huts_of s) (huts_of t) i synced
       → (more : List Event) × Stands t (es ++ more) × ((more ≡ []) ⊎ (more ≡ Syncs h ∷ []))
-  still_or_synced letters (inl turns) = ([], subst (Stands t) (sym (append-nil es)) (stands_still s t es h (turns kept stands.follows) letters stands), inl refl)
+  still_or_synced letters (inl turns) = ([], subst (Stands t) (sym (append-nil es)) (stands_still s t es h (turns kept stands.follows).0 letters stands), inl refl)
   still_or_synced letters (inr turns) = (Syncs h ∷ [], on (Syncs h ∷ []) synced (after_sync es h low) letters turns, inr refl)
 
   pub unmoved :
@@ -206,7 +206,7 @@ module _ (s t : Stage) (i : ℕ) (within : i < length (huts_of s)) (es : List Ev
 
   pub went_crash :
       (left : ℕ) (d : Done) → bytes_sent t ≡ bytes_sent s
-      → ((before : ℕ → Kept) → Follows (huts_of s) before → (lost : ℕ) × Follows (huts_of t) (put h (synced (crashed lost (before h))) before))
+      → ((before : ℕ → Kept) → Follows (huts_of s) before → (lost : ℕ) × Follows (huts_of t) (put h (synced (crashed lost (before h))) before) × SameHuts (huts_of s) (huts_of t))
       → Went s t i (acts.Crash left) (Ok d) es
   went_crash left d letters lose =
       let left = lose kept stands.follows in
@@ -221,14 +221,14 @@ module _ (s t : Stage) (i : ℕ) (within : i < length (huts_of s)) (es : List Ev
     took turns =
         stands_on s t es (Takes h letter ∷ []) h (take_nth letter (after es).sent (kept h)) (after_take es h low letter)
         (subst (λ (k : Kept). Follows (huts_of t) (put h k kept)) (means_take bytes _ (stands.sent letter there) (kept h) ∙ sym (take_nth_at letter (after es).sent (kept h)))
-        (turns kept stands.follows))
+        (turns kept stands.follows).0)
         letters stands
 
     -- its first bytes, which are no letter where they are not all
     pub took_part : (len : ℕ) → len < length bytes → Turns (huts_of s) (huts_of t) i (take_bytes (take len bytes)) → Stands t (es ++ Damaged h ∷ [])
     took_part len short turns =
         stands_as t es (es ++ Damaged h ∷ []) (after_one es (Damaged h))
-        (stands_still s t es h (subst (λ (k : Kept). Follows (huts_of t) (put h k kept)) (means_cut bytes _ (stands.sent letter there) len short (kept h)) (turns kept stands.follows)) letters stands)
+        (stands_still s t es h (subst (λ (k : Kept). Follows (huts_of t) (put h k kept)) (means_cut bytes _ (stands.sent letter there) len short (kept h)) (turns kept stands.follows).0) letters stands)
 
     pub took_first :
         (len : ℕ) → Turns (huts_of s) (huts_of t) i (take_bytes (take len bytes)) → (more : List Event) × Stands t (es ++ more) × Comes h (acts.Cut letter len) more
@@ -241,7 +241,7 @@ module _ (s t : Stage) (i : ℕ) (within : i < length (huts_of s)) (es : List Ev
   unfolding items_taken
   heard_nothing bs letters none turns =
       subst (Stands t) (sym (append-nil es))
-      (stands_still s t es h (subst (λ (x : Heard). Follows (huts_of t) (put h (items_taken (items_of x) (kept h)) kept)) none (turns kept stands.follows)) letters stands)
+      (stands_still s t es h (subst (λ (x : Heard). Follows (huts_of t) (put h (items_taken (items_of x) (kept h)) kept)) none (turns kept stands.follows).0) letters stands)
 
   pub went_take :
       (letter : ℕ) (r : Result Done Unplayed) → bytes_sent t ≡ bytes_sent s
@@ -258,7 +258,7 @@ module _ (s t : Stage) (i : ℕ) (within : i < length (huts_of s)) (es : List Ev
   went_cut letter len (Err e) letters left there = unmoved e letters left
 
   -- the state of the replica is what its hut has kept
-  state_kept : (qs : List Hut) → qs ≡ huts_of s → state_at (huts_of s) i ≡ state_in (kept h)
+  pub state_kept : (qs : List Hut) → qs ≡ huts_of s → state_at (huts_of s) i ≡ state_in (kept h)
   state_kept [] is = absurd (omega (arith, within, ap length is))
   state_kept (q ∷ qs) is = get_or-map (λ p. state_by p) (huts_of s) i q (fresh 0) within ∙ (stands.follows.in_step i q within).state
 
@@ -293,7 +293,7 @@ module _ (s t : Stage) (i : ℕ) (within : i < length (huts_of s)) (es : List Ev
     wrote_letter ok letters turns =
         let is = after_write es h low count stamps in
         record {
-          follows = subst (λ (m : Net). Follows (huts_of t) m.hut) (sym is) (turns kept stands.follows);
+          follows = subst (λ (m : Net). Follows (huts_of t) m.hut) (sym is) (turns kept stands.follows).0;
           as_many = rw (letters, is) longer;
           sent = rw (letters, is) (last (written ok));
         }

@@ -1,4 +1,5 @@
 pub mod Acts
+pub mod Cases
 pub mod Casts
 pub mod Items
 pub mod Net

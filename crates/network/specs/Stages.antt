@@ -35,9 +35,14 @@ pub record Follows (qs : List Hut) (kept : ℕ → Kept) : Type 0 where
 abbrev pub Unsynced : List Hut → ℕ → Type 0
 Unsynced qs i = (q : Hut) → is_synced (get_or qs i q).journal.phase ≡ false
 
+-- each place has a replica of the hut that it had
+abbrev pub SameHuts : List Hut → List Hut → Type 0
+SameHuts qs ps = (j : ℕ) → hut_at ps j ≡ hut_at qs j
+
 -- whatever is kept before a call, a step at one place makes this of it
 abbrev pub Turns : List Hut → List Hut → ℕ → (Kept → Kept) → Type 0
-Turns qs ps i step = (kept : ℕ → Kept) → Follows qs kept → Follows ps (put (hut_at qs i) (step (kept (hut_at qs i))) kept)
+Turns qs ps i step =
+    (kept : ℕ → Kept) → Follows qs kept → Follows ps (put (hut_at qs i) (step (kept (hut_at qs i))) kept) × SameHuts qs ps
 
 -- a call that cannot fail, since each journal has room
 abbrev pub Never : List Hut → Type 0

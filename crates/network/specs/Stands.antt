@@ -7,7 +7,7 @@ use Rattle.letters.specs.Letters.{PlainLetter, encode_letter}
 use Rattle.network.specs.Items.{Letter}
 use Rattle.network.specs.Net.{Event, Makes, Commits, Syncs, Writes, Takes, Damaged, Crashes, after}
 use Rattle.std.specs.declared.result.Result.{Result}
-use Rattle.network.specs.Stages.{Follows, hut_at, huts_of, bytes_sent}
+use Rattle.network.specs.Stages.{Follows, hut_at, huts_of, bytes_for, bytes_sent}
 use Rattle.network.specs.declared.act.Act.{Act}
 use Rattle.network.specs.declared.act.Act.TheVariants as acts
 use Rattle.network.specs.declared.act.Done.{Done}
@@ -40,3 +40,15 @@ abbrev pub Went : Stage → Stage → ℕ → Act → Result Done Unplayed → L
 Went s t i act r es =
     (more : List Event) × Stands t (es ++ more)
     × MatchResult r (λ _. Comes (hut_at (huts_of s) i) act more) (λ _. (more ≡ []) ⊎ (more ≡ Syncs (hut_at (huts_of s) i) ∷ []))
+
+-- the letters that an act leaves: one more where one was written
+abbrev pub Sent : Stage → Stage → ℕ → Act → Result Done Unplayed → Type 0
+Sent s t i (acts.Write has) r =
+    MatchResult r (λ _. bytes_sent t ≡ bytes_sent s ++ bytes_for s i has.committed has.vector.stamps ∷ []) (λ _. bytes_sent t ≡ bytes_sent s)
+Sent s t i (acts.Make kind) r = bytes_sent t ≡ bytes_sent s
+Sent s t i acts.Commit r = bytes_sent t ≡ bytes_sent s
+Sent s t i acts.Sync r = bytes_sent t ≡ bytes_sent s
+Sent s t i (acts.Take letter) r = bytes_sent t ≡ bytes_sent s
+Sent s t i (acts.Cut letter len) r = bytes_sent t ≡ bytes_sent s
+Sent s t i (acts.Crash left) r = bytes_sent t ≡ bytes_sent s
+Sent s t i (acts.Visit slip) r = bytes_sent t ≡ bytes_sent s

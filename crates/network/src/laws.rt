@@ -1,4 +1,5 @@
 // The laws of the network: each function's contract is a law.
+ghost use Rattle.network.specs.Cases.{SixCases, SixCasesPlayed};
 ghost use Rattle.network.specs.Promise.{Always, OneOrder, ZeroLeads, Final, HandedOnStays, SameLog, OnceEach, BehindKnown, NamedBefore, NoGaps, VectorsSay, GuestsKeep, SlipsSay, LettersBring, TakenWhole, LettersNeeded, CanAgree};
 ghost use Rattle.network.specs.Promised.{Promised};
 
@@ -85,4 +86,10 @@ pub fn can_agree()
 // All laws at once, of the network after any list of events.
 pub fn promised()
     ensures { Always Promised }
+{}
+
+// Six cases that wardens ask about: in each a hut answers as the table says, and so does its replica in a rehearsal.
+pub fn six_cases()
+    ensures model { SixCases }
+    ensures played { SixCasesPlayed }
 {}

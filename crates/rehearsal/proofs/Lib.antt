@@ -1,1 +1,1 @@
-pub mod Gotten
+pub mod Sending

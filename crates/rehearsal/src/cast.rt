@@ -2,12 +2,17 @@
 ghost use Rattle.std.specs.Prelude.{◌<◌, vec_len};
 
 use network::rehearsal::Rehearsal;
+use std::alloc::Global;
 
 mod carries;
+mod desks;
 mod plays;
+mod reads;
 
 #[derive(Drop)]
 pub struct Cast {
+    // Where the memory of letters comes from.
+    heap: Global,
     rehearsal: Rehearsal,
     // The place of the hut that lines are for.
     current: usize,

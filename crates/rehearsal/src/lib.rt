@@ -1,5 +1,4 @@
 // A rehearsal: some huts in memory, and what they answer.
 #![tactic(auto)]
 
-pub mod answers;
 pub mod cast;

@@ -1,9 +1,10 @@
 // Letters that are carried, and huts that crash.
-use crate::say::{or_refuse, say, say_takings};
+use crate::say::{or_refuse, say};
 use console::answer::Answer;
 use console::answer::letters::Carried;
-use console::answer::starts::Opened;
 use console::command::Command;
+use desk::answers::opened;
+use desk::says::say_takings;
 use network::unplayed::Unplayed;
 use rehearsal::cast::Cast;
 use std::alloc::Global;
@@ -75,15 +76,7 @@ fn stop(
 ) -> anyhow::Result<()> {
     if let Some(cut) = or_refuse(out, cast.crash(heap, hut, bytes))? {
         if let Some(replica) = cast.replica(hut) {
-            let committed = replica.committed();
-            let tentative = replica.entries().len().saturating_sub(committed);
-            let opened = Opened {
-                hut: replica.hut(),
-                committed,
-                tentative,
-                cut,
-            };
-            say(out, Answer::Opened { opened })?;
+            say(out, opened(replica, cut))?;
         }
     }
     Ok(())

@@ -1,43 +1,41 @@
 // Plays a script from standard input with some huts in memory, and answers each line.
 #![tactic(auto)]
 
+use console::input::Lines;
+use desk::page::Page;
 use play::play;
-use std::io::{BufRead, BufReader, BufWriter, Write};
+use std::io::{BufWriter, Write};
 use std::process::ExitCode;
 
 mod carry;
 mod play;
 mod say;
-mod told;
-
-// A line without its line break.
-fn cut(line: &[u8]) -> &[u8] {
-    match line {
-        [front @ .., b'\n'] => front,
-        _ => line,
-    }
-}
 
 // Answers go out before the program waits for more input: where no whole line is at hand.
-fn run(rt: &HostRuntime) -> anyhow::Result<()> {
+fn answer_all(rt: &HostRuntime, out: &mut impl Write) -> anyhow::Result<()> {
     let heap = rt.alloc();
-    let mut input = BufReader::new(heap, rt.stdin())?;
-    let mut output = BufWriter::new(heap, rt.stdout())?;
-    let mut line = Vec::new(heap);
+    let mut lines = Lines::new(heap, rt.stdin())?;
+    let mut page = Page::new(heap)?;
     let mut stage = None;
     // A `loop` would owe a measure, and input has none: so its lines are counted.
     for _ in 0..u64::MAX {
-        line.clear();
-        if input.read_until(b'\n', &mut line)? == 0 {
+        if !lines.advance()? {
             break;
         }
-        play(&mut output, heap, &mut stage, cut(line.as_slice()))?;
-        if !input.buffer().contains(&b'\n') {
-            output.flush()?;
+        play(out, heap, &mut page, &mut stage, lines.line())?;
+        if !lines.has_more() {
+            out.flush()?;
         }
     }
-    output.flush()?;
     Ok(())
+}
+
+// What was answered before an error is written too.
+fn run(rt: &HostRuntime) -> anyhow::Result<()> {
+    let mut out = BufWriter::new(rt.alloc(), rt.stdout())?;
+    let answered = answer_all(rt, &mut out);
+    out.flush()?;
+    answered
 }
 
 fn main(rt: HostRuntime) -> ExitCode {
@@ -45,7 +43,7 @@ fn main(rt: HostRuntime) -> ExitCode {
         Ok(()) => ExitCode::SUCCESS,
         Err(why) => {
             // Where that fails too, nothing can be said.
-            let _ = eprintln!(rt; "error: {why}");
+            let _ = eprintln!(rt; "error: {why:#}");
             ExitCode::FAILURE
         }
     }

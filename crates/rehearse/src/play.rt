@@ -1,20 +1,24 @@
 // What each line of the script does, and what is written for it.
 use crate::carry::carry;
-use crate::say::{or_refuse, say, say_error};
-use crate::told::at_hut;
+use crate::say::{or_refuse, say};
 use console::answer::Answer;
+use console::answer::starts::Usage;
 use console::command::{Command, Expected};
 use console::hex::Hex;
 use console::line::read_command;
+use desk::asks::{ask, or_refused};
+use desk::page::Page;
 use journal::opened::NotOpened;
 use rehearsal::cast::Cast;
 use std::alloc::Global;
+use std::io;
 use std::io::Write;
 
 // The stage is empty until the huts are named.
 pub fn play(
     out: &mut impl Write,
     heap: Global,
+    page: &mut Page,
     stage: &mut Option<Cast>,
     line: &[u8],
 ) -> anyhow::Result<()> {
@@ -22,12 +26,12 @@ pub fn play(
     let command = match asked.command {
         Ok(command) => command,
         Err(expected) => {
-            say_error(out, expected)?;
+            say(out, Answer::Error { expected })?;
             return Ok(());
         }
     };
     match stage {
-        Some(cast) => answer(out, heap, cast, &command, asked.letter),
+        Some(cast) => answer(out, heap, page, cast, &command, asked.letter),
         None => open(out, heap, stage, &command),
     }
 }
@@ -46,7 +50,7 @@ fn open(
             Err(NotOpened::Refused(why)) => say(out, Answer::Refused { why })?,
             Err(why) => return Err(why.into()),
         },
-        _ => say_error(out, Expected::HutsFirst)?,
+        _ => say_expected(out, Expected::HutsFirst)?,
     }
     Ok(())
 }
@@ -55,13 +59,13 @@ fn open(
 fn answer(
     out: &mut impl Write,
     heap: Global,
+    page: &mut Page,
     cast: &mut Cast,
     command: &Command,
     letter: Hex,
 ) -> anyhow::Result<()> {
     match command {
-        Command::Pass => {}
-        Command::Huts { .. } => say_error(out, Expected::HutsOnce)?,
+        Command::Huts { .. } => say_expected(out, Expected::HutsOnce)?,
         Command::At { hut } => {
             let meant = cast.at(*hut).map_err(Into::into);
             or_refuse(out, meant)?;
@@ -71,7 +75,29 @@ fn answer(
         | Command::Again { .. }
         | Command::Cut { .. }
         | Command::Stop { .. } => carry(out, heap, cast, command)?,
-        _ => at_hut(out, heap, cast, command, letter)?,
+        Command::Help => {
+            let usage = Usage::Rehearsal;
+            say(out, Answer::Usage { usage })?;
+            at_hut(out, page, cast, command, letter)?;
+        }
+        _ => at_hut(out, page, cast, command, letter)?,
     }
     Ok(())
+}
+
+// What the hut that is meant is told, and answers.
+fn at_hut(
+    out: &mut impl Write,
+    page: &mut Page,
+    cast: &mut Cast,
+    command: &Command,
+    letter: Hex,
+) -> anyhow::Result<()> {
+    let reply = or_refused(ask(cast, page, command, letter))?;
+    desk::says::say(out, cast, page, reply)?;
+    Ok(())
+}
+
+fn say_expected(out: &mut impl Write, expected: Expected) -> io::Result<()> {
+    say(out, Answer::Error { expected })
 }

@@ -5,7 +5,7 @@ ghost use Rattle.journal.specs.History.{Kept};
 ghost use Rattle.letters.specs.Letters.{damaged, read_letter};
 ghost use Rattle.network.specs.Net.{put};
 ghost use Rattle.network.specs.Reached.{Promises};
-ghost use Rattle.network.specs.Stages.{Follows, Unwritten, bytes_sent, hut_at, huts_of};
+ghost use Rattle.network.specs.Stages.{Follows, SameHuts, Unwritten, bytes_sent, hut_at, huts_of};
 ghost use Rattle.network.specs.Taking.{Reports, take_bytes};
 ghost use Rattle.network.specs.declared.act.Done.TheVariants.{Taken};
 ghost use Rattle.network.specs.declared.unplayed.Unplayed.TheVariants.{Memory, Refused, Failed};
@@ -24,6 +24,7 @@ impl Rehearsal {
             → Follows (huts_of self.new.stage) (put (hut_at (huts_of self.old.stage) at) (take_bytes bytes.now (kept (hut_at (huts_of self.old.stage) at))) kept)
             × Reports self.new.stage.report (read_letter bytes.now) (kept (hut_at (huts_of self.old.stage) at)) }
         ensures letters { self.new.stage.letters ≡ self.old.stage.letters }
+        ensures places { SameHuts (huts_of self.old.stage) (huts_of self.new.stage) }
         ensures many { vec_len self.new.stage.keepers ≡ vec_len self.old.stage.keepers }
         ensures honest { self.old.forged ≡ false → read_letter bytes.now ≡ damaged → self.new.forged ≡ false }
         ensures written { self.old.forged ≡ false → (Unwritten (bytes_sent self.old.stage) bytes.now → ⊥) → self.new.forged ≡ false }

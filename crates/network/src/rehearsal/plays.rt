@@ -6,8 +6,8 @@ ghost use Rattle.letters.specs.Letters.{read_letter};
 ghost use Rattle.network.specs.Acts.{Told, Denied, writes, comes_of};
 ghost use Rattle.network.specs.Net.{Event};
 ghost use Rattle.network.specs.Reached.{Promises};
-ghost use Rattle.network.specs.Stages.{Follows, Hut, bytes_sent, hut_at, huts_of};
-ghost use Rattle.network.specs.Stands.{Stands, Went};
+ghost use Rattle.network.specs.Stages.{Follows, Hut, SameHuts, bytes_sent, hut_at, huts_of};
+ghost use Rattle.network.specs.Stands.{Sent, Stands, Went};
 ghost use Rattle.network.specs.Taking.{Reports};
 ghost use Rattle.network.specs.declared.act.Act.TheVariants as acts;
 ghost use Rattle.network.specs.declared.unplayed.Unplayed.TheVariants.{Memory, Refused, Failed};
@@ -30,6 +30,8 @@ impl Rehearsal {
         ensures report { (kept : ℕ → Kept) → at < vec_len self.old.stage.keepers → Follows (huts_of self.old.stage) kept → MatchResult result
             (λ _. MatchOption (comes_of (bytes_sent self.old.stage) act.now) (Unit {0}) (λ bs. Reports self.new.stage.report (read_letter bs) (kept (hut_at (huts_of self.old.stage) at))))
             (λ _. Unit {0}) }
+        ensures letters { at < vec_len self.old.stage.keepers → Sent self.old.stage self.new.stage at act.now result }
+        ensures places { SameHuts (huts_of self.old.stage) (huts_of self.new.stage) }
         ensures many { vec_len self.new.stage.keepers ≡ vec_len self.old.stage.keepers }
         ensures clean { act.now ≡ acts.Sync → MatchResult result (λ _. (q : Hut) → is_synced (get_or (huts_of self.new.stage) at q).journal.phase ≡ true) (λ _. Unit {0}) }
         ensures forged { self.new.forged ≡ self.old.forged }

@@ -5,8 +5,8 @@ ghost use Rattle.journal.specs.Phases.{is_synced};
 ghost use Rattle.letters.specs.Letters.{read_letter};
 ghost use Rattle.network.specs.Acts.{Told, Denied, writes, comes_of};
 ghost use Rattle.network.specs.Net.{Event};
-ghost use Rattle.network.specs.Stages.{Follows, Hut, Never, bytes_sent, hut_at, huts_of};
-ghost use Rattle.network.specs.Stands.{Stands, Went};
+ghost use Rattle.network.specs.Stages.{Follows, Hut, SameHuts, Never, bytes_sent, hut_at, huts_of};
+ghost use Rattle.network.specs.Stands.{Sent, Stands, Went};
 ghost use Rattle.network.specs.Taking.{Reports};
 ghost use Rattle.network.specs.declared.act.Act.TheVariants as acts;
 ghost use Rattle.network.specs.declared.unplayed.Unplayed.TheVariants.{Memory, Refused, Failed};
@@ -25,7 +25,8 @@ impl Stage {
         ensures report { (kept : ℕ → Kept) → Follows (huts_of self.old) kept → MatchResult result
             (λ _. MatchOption (comes_of (bytes_sent self.old) act.now) (Unit {0}) (λ bs. Reports self.new.report (read_letter bs) (kept (hut_at (huts_of self.old) at))))
             (λ _. Unit {0}) }
-        ensures follows { (kept : ℕ → Kept) → Follows (huts_of self.old) kept → (now : ℕ → Kept) × Follows (huts_of self.new) now }
+        ensures follows { (kept : ℕ → Kept) → Follows (huts_of self.old) kept → (now : ℕ → Kept) × Follows (huts_of self.new) now × SameHuts (huts_of self.old) (huts_of self.new) }
+        ensures letters { Sent self.old self.new at act.now result }
         ensures many { vec_len self.new.keepers ≡ vec_len self.old.keepers }
         ensures clean { act.now ≡ acts.Sync → MatchResult result (λ _. (q : Hut) → is_synced (get_or (huts_of self.new) at q).journal.phase ≡ true) (λ _. Unit {0}) }
         ensures steps { (es : List Event) → Stands self.old es → Went self.old self.new at act.now result es }

@@ -5,7 +5,7 @@ ghost use Rattle.journal.specs.History.{Kept, synced, crashed, makes, commits};
 ghost use Rattle.journal.specs.Phases.{is_synced};
 ghost use Rattle.network.specs.Acts.{Told, Denied};
 ghost use Rattle.network.specs.Net.{put};
-ghost use Rattle.network.specs.Stages.{Follows, Turns, Unmoved, Hut, Never, huts_of, hut_at};
+ghost use Rattle.network.specs.Stages.{Follows, SameHuts, Turns, Unmoved, Hut, Never, huts_of, hut_at};
 ghost use Rattle.network.specs.declared.act.Act.TheVariants as acts;
 ghost use Rattle.network.specs.declared.unplayed.Unplayed.TheVariants.{Memory, Refused, Failed};
 
@@ -60,8 +60,9 @@ impl Stage {
         ensures letters { self.new.letters ≡ self.old.letters }
         ensures many { vec_len self.new.keepers ≡ vec_len self.old.keepers }
     {
-        self.keepers[at].sync()?;
-        let replica = self.keepers[at].shown().ok_or(Fault::Shut)?;
+        let keeper = &mut self.keepers[at];
+        keeper.sync()?;
+        let replica = keeper.shown().ok_or(Fault::Shut)?;
         Ok(Done::Visited(replica.serve(slip)?))
     }
 
@@ -70,7 +71,7 @@ impl Stage {
         requires { at < vec_len self.old.keepers }
         ensures answer { Told (huts_of self.old) at 0 (acts.Crash left) result }
         ensures kept { (kept : ℕ → Kept) → Follows (huts_of self.old) kept
-            → (lost : ℕ) × Follows (huts_of self.new) (put (hut_at (huts_of self.old) at) (synced (crashed lost (kept (hut_at (huts_of self.old) at)))) kept) }
+            → (lost : ℕ) × Follows (huts_of self.new) (put (hut_at (huts_of self.old) at) (synced (crashed lost (kept (hut_at (huts_of self.old) at)))) kept) × SameHuts (huts_of self.old) (huts_of self.new) }
         ensures letters { self.new.letters ≡ self.old.letters }
         ensures many { vec_len self.new.keepers ≡ vec_len self.old.keepers }
     {

@@ -1,18 +1,19 @@
 // What the hut that is meant does.
-ghost use Rattle.std.specs.Prelude.{◌≡◌, ◌<◌, ◌⊎◌, true, false, [], List, get_or, vec_len, MatchOption, MatchResult};
-ghost use Rattle.bookings.specs.Plain.{plain_kind};
+ghost use Rattle.std.specs.Prelude.{◌≡◌, ℕ, ◌<◌, true, false, [], List, is_ok, vec_len, MatchOption, MatchResult, OnOk};
 ghost use Rattle.bookings.specs.Refusals.{number_of};
-ghost use Rattle.console.specs.Checks.{RequestOk};
-ghost use Rattle.console.specs.Requests.{asked};
+ghost use Rattle.journal.specs.History.{Kept};
 ghost use Rattle.journal.specs.declared.opened.NotOpened.TheVariants.{Memory as NoMemory, Refused as Kept_out, Failed as Broken};
-ghost use Rattle.network.specs.Acts.{Told, Denied, writes};
+ghost use Rattle.letters.specs.Letters.{damaged, read_letter};
+ghost use Rattle.network.specs.Acts.{Told, Denied, writes, comes_of};
 ghost use Rattle.network.specs.Casts.{Absent, CastOk, Opens};
 ghost use Rattle.network.specs.Net.{Event};
 ghost use Rattle.network.specs.Reached.{Promises};
-ghost use Rattle.network.specs.Stages.{Unsynced, hut_at, huts_of, state_at};
+ghost use Rattle.network.specs.Stages.{Follows, Unsynced, Unwritten, bytes_sent, hut_at, huts_of};
 ghost use Rattle.network.specs.Stands.{Stands, Went};
+ghost use Rattle.network.specs.Taking.{Reports};
+ghost use Rattle.network.specs.declared.act.Act.TheVariants as acts;
 ghost use Rattle.network.specs.declared.unplayed.Unplayed.TheVariants.{Memory, Refused, Failed};
-ghost use Rattle.replica.specs.Views.{state_of};
+ghost use Rattle.rehearsal.specs.Carrying.{heard_at};
 
 use super::Cast;
 use bookings::refusal::Refusal;
@@ -20,7 +21,6 @@ use journal::opened::NotOpened;
 use network::act::{Act, Done};
 use network::rehearsal::Rehearsal;
 use network::unplayed::Unplayed;
-use replica::replica::Replica;
 use std::alloc::Global;
 
 impl Cast {
@@ -32,6 +32,7 @@ impl Cast {
     {
         let rehearsal = Rehearsal::new(heap, huts)?;
         Ok(Cast {
+            heap,
             rehearsal,
             current: 0,
             carried: Vec::new(heap),
@@ -59,25 +60,39 @@ impl Cast {
         self.rehearsal.find(hut).ok_or(Refusal::OutOfRange)
     }
 
-    // The replica of the hut that is meant, to be shown: none where something of it is not synced.
-    pub fn meant(&self) -> Option<&Replica>
-        ensures { MatchOption result
-            (Unsynced (huts_of self.now.rehearsal.stage) self.now.current)
-            (λ p. state_of p.now ≡ state_at (huts_of self.now.rehearsal.stage) self.now.current) }
-    {
-        self.rehearsal.shown(self.current)
-    }
-
     // The hut that is meant does what it is told.
     pub fn play(&mut self, heap: Global, act: &Act) -> Result<Done, Unplayed>
         ensures answer { MatchResult result
             (Told (huts_of self.old.rehearsal.stage) self.old.current (vec_len self.old.rehearsal.stage.letters) act.now)
             (λ e. elim e [ Memory ↦ writes act.now ≡ true | Refused w ↦ Denied (huts_of self.old.rehearsal.stage) self.old.current (vec_len self.old.rehearsal.stage.letters) act.now w | Failed f ↦ ⊥ ]) }
         ensures steps { (es : List Event) → Stands self.old.rehearsal.stage es → Went self.old.rehearsal.stage self.new.rehearsal.stage self.old.current act.now result es }
+        ensures report { (kept : ℕ → Kept) → Follows (huts_of self.old.rehearsal.stage) kept → OnOk result
+            (MatchOption (comes_of (bytes_sent self.old.rehearsal.stage) act.now) (Unit {0})
+            (λ bs. Reports self.new.rehearsal.stage.report (read_letter bs) (kept (hut_at (huts_of self.old.rehearsal.stage) self.old.current)))) }
         ensures promised { self.new.rehearsal.forged ≡ false → Promises self.new.rehearsal.stage }
+        ensures forged { self.new.rehearsal.forged ≡ self.old.rehearsal.forged }
+        ensures clean { act.now ≡ acts.Sync → OnOk result (Unsynced (huts_of self.new.rehearsal.stage) self.new.current → ⊥) }
         ensures current { self.new.current ≡ self.old.current }
         ensures carried { self.new.carried ≡ self.old.carried }
     {
         self.rehearsal.play(heap, self.current, act)
+    }
+
+    // Bytes that were typed come to the hut that is meant. A letter that none of the huts wrote is beyond what is promised.
+    pub fn hear(&mut self, bytes: &[u8]) -> Result<(), Unplayed>
+        ensures answer { is_ok result ≡ true }
+        ensures taken { (kept : ℕ → Kept) → Follows (huts_of self.old.rehearsal.stage) kept
+            → Follows (huts_of self.new.rehearsal.stage) (heard_at (huts_of self.old.rehearsal.stage) self.old.current bytes.now kept) }
+        ensures report { (kept : ℕ → Kept) → Follows (huts_of self.old.rehearsal.stage) kept
+            → Reports self.new.rehearsal.stage.report (read_letter bytes.now) (kept (hut_at (huts_of self.old.rehearsal.stage) self.old.current)) }
+        ensures letters { self.new.rehearsal.stage.letters ≡ self.old.rehearsal.stage.letters }
+        ensures honest { self.old.rehearsal.forged ≡ false → read_letter bytes.now ≡ damaged → self.new.rehearsal.forged ≡ false }
+        ensures written { self.old.rehearsal.forged ≡ false → (Unwritten (bytes_sent self.old.rehearsal.stage) bytes.now → ⊥) → self.new.rehearsal.forged ≡ false }
+        ensures promised { self.new.rehearsal.forged ≡ false → Promises self.new.rehearsal.stage }
+        ensures current { self.new.current ≡ self.old.current }
+        ensures carried { self.new.carried ≡ self.old.carried }
+    {
+        self.rehearsal.hear(self.current, bytes)?;
+        Ok(())
     }
 }

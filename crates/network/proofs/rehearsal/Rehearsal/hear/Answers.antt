@@ -1,5 +1,5 @@
 use Rattle.std.proofs.Common.{rules}
-use Rattle.network.proofs.Reached.{heard_reached, reached_promises, stays_honest, stays_written, went_followed}
+use Rattle.network.proofs.Reached.{heard_reached, reached_promises, stays_honest, stays_written, went_followed, went_huts}
 use Rattle.network.proofs.Stands.{same_letters}
 use Rattle.network.proofs.rehearsal.Rehearsal.hear.Goals as goal
 
@@ -19,7 +19,7 @@ returns-clause-written c =
 pub invariant_of-self-3 : goal.invariant_of-self-3
 invariant_of-self-3 c =
     record {
-      followed = went_followed c.args.self.now.stage c.hear.new.self (λ kept follows. (_, c.in_ok-done.ensures.kept kept follows)) c.args.self.now.followed;
+      followed = went_followed c.args.self.now.stage c.hear.new.self (λ kept follows. (_, (c.in_ok-done.ensures.kept kept follows).0)) c.args.self.now.followed;
       reached = heard_reached c.args.self.now.stage _ c.args.at c.args.bytes.now c.find.result c.hear.new.self.report.rejected c.args.self.now.forged c.is_some-written.result c.is_damaged.result
           c.is_some-written.ensures c.is_damaged.ensures (λ kept follows. (c.in_ok-done.ensures.report kept follows).0) c.args.self.now.followed (search rules) (same_letters c.args.self.now.stage c.hear.new.self c.in_ok-done.ensures.letters)
           c.in_ok-done.ensures.kept c.find.ensures c.args.self.now.reached;
@@ -31,3 +31,7 @@ returns-clause-promised c = λ honest.
     (heard_reached c.args.self.now.stage _ c.args.at c.args.bytes.now c.find.result c.hear.new.self.report.rejected c.args.self.now.forged c.is_some-written.result c.is_damaged.result
     c.is_some-written.ensures c.is_damaged.ensures (λ kept follows. (c.in_ok-done.ensures.report kept follows).0) c.args.self.now.followed (search rules) (same_letters c.args.self.now.stage c.hear.new.self c.in_ok-done.ensures.letters)
     c.in_ok-done.ensures.kept c.find.ensures c.args.self.now.reached honest)
+
+pub returns-clause-places : goal.returns-clause-places
+returns-clause-places c =
+    went_huts c.args.self.now.stage c.hear.new.self (λ kept follows. (c.in_ok-done.ensures.kept kept follows).1) c.args.self.now.followed

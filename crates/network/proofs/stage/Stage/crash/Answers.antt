@@ -17,4 +17,5 @@ returns-clause-kept c = λ kept follows.
     let p = c.crash-cut.new.self in
     let roomy = subst (λ (t : Hut). most_bytes < vec_capacity t.journal.medium.held) (sym c.index_mut.ensures.value) (follows.room c.args.at q (search rules)) in
     let left = c.crash-cut.ensures.kept _ (was qs c.args.at q p kept (search rules) c.index_mut.ensures.value follows) (omega (arith, roomy)) in
-    (left.0, followed qs c.args.at q p kept (search rules) c.index_mut.ensures.value follows _ refl c.crash-cut.ensures.room left.1)
+    let goes = followed qs c.args.at q p kept (search rules) c.index_mut.ensures.value follows _ refl c.crash-cut.ensures.room left.1 in
+    (left.0, goes.0, goes.1)

@@ -1,27 +1,24 @@
-use Rattle.std.proofs.Common.{◌≡◌, ◌<◌, length, refl, rules, vec_items, sym, ap, inr, ◌∙◌}
+use Rattle.std.proofs.Common.{◌≡◌, refl, rules, vec_items, sym, ap, inr, ◌∙◌}
 use Rattle.std.proofs.lemmas.Result.{err_from_is_err_and}
-use Rattle.std.proofs.lemmas.List.{get_or-set_same}
 use Rattle.std.proofs.lemmas.Option.{MatchOption-at_some}
 use Rattle.journal.specs.History.{synced}
 use Rattle.replica.specs.Model.{serves, slip_after}
 use Rattle.replica.specs.Views.{state_of}
-use Rattle.network.specs.Stages.{Hut, state_at}
+use Rattle.network.specs.Stages.{state_at}
 use Rattle.network.proofs.Stages.{state_here, turned}
 use Rattle.network.proofs.stage.Stage.visit.Goals as goal
 
 pub returns-in_err-serve-clause-kept : goal.returns-in_err-serve-clause-kept
 returns-in_err-serve-clause-kept c =
     let p = err_from_is_err_and c.from_residual-in_err-serve.result c.from_residual-in_err-serve.ensures.1 in
-    rw (p.1, p.2) (inr (turned (vec_items c.args.self.now.keepers) c.args.at c.index_mut.result.now c.sync.new.self (search rules) c.index_mut.ensures.value c.sync.ensures.room synced (λ k. refl) c.in_ok-sync.ensures.kept))
+    rw (p.1, p.2) (inr (turned (vec_items c.args.self.now.keepers) c.args.at c.index_mut-keeper.result.now c.sync.new.self (search rules) c.index_mut-keeper.ensures.value c.sync.ensures.room synced (λ k. refl) c.in_ok-sync.ensures.kept))
 
 pub returns-clause-answer : goal.returns-clause-answer
 returns-clause-answer c =
     let qs = vec_items c.args.self.now.keepers in
-    let within : c.args.at < length qs = search rules in
     let shown = (MatchOption-at_some _ _ _ c.in_ok-replica.ensures.ok_part c.shown.ensures).0 in
-    let there = c.index.ensures ∙ get_or-set_same qs c.args.at c.sync.new.self c.index.result.now within in
     let same : state_of c.in_ok-replica.replica.now ≡ state_at qs c.args.at =
-    ap state_of (shown ∙ ap (λ (q : Hut). q.replica) there ∙ c.in_ok-sync.ensures.replica) ∙ sym (state_here qs c.args.at c.index_mut.result.now within c.index_mut.ensures.value)
+    ap state_of (shown ∙ c.in_ok-sync.ensures.replica) ∙ sym (state_here qs c.args.at c.index_mut-keeper.result.now (search rules) c.index_mut-keeper.ensures.value)
     in (
       c.in_ok-serve.field-0,
       refl,
@@ -30,4 +27,4 @@ returns-clause-answer c =
     )
 
 pub returns-clause-kept : goal.returns-clause-kept
-returns-clause-kept c = turned (vec_items c.args.self.now.keepers) c.args.at c.index_mut.result.now c.sync.new.self (search rules) c.index_mut.ensures.value c.sync.ensures.room synced (λ k. refl) c.in_ok-sync.ensures.kept
+returns-clause-kept c = turned (vec_items c.args.self.now.keepers) c.args.at c.index_mut-keeper.result.now c.sync.new.self (search rules) c.index_mut-keeper.ensures.value c.sync.ensures.room synced (λ k. refl) c.in_ok-sync.ensures.kept

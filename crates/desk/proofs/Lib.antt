@@ -1,0 +1,2 @@
+pub mod Gotten
+pub mod Lines

@@ -1,0 +1,5 @@
+pub mod Failures
+pub mod Replies
+pub mod Said
+pub mod Steps
+pub mod Answers

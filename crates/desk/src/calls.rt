@@ -1,0 +1,70 @@
+// What the lines of a hut call.
+ghost use Rattle.std.specs.Prelude.{◌≡◌, ℕ, true, false, List, None, Some, Option, MatchOption, MatchResult};
+ghost use Rattle.std.specs.Option.{option_map};
+ghost use Rattle.bookings.specs.Plain.{plain_kind, plain_mark};
+ghost use Rattle.bookings.specs.Refusals.{number_of};
+ghost use Rattle.desk.specs.Failures.{Undone, Unwritten};
+ghost use Rattle.entry_log.specs.Logs.{first_mark};
+ghost use Rattle.network.specs.declared.outcome.Outcome.{Outcome};
+ghost use Rattle.replica.specs.Model.{State, make_refusal, next_mark, is_primary};
+ghost use Rattle.replica.specs.Views.{state_of};
+
+use crate::page::Page;
+use bookings::entry::{Kind, Mark};
+use network::outcome::Outcome;
+use network::unplayed::Unplayed;
+use replica::replica::Replica;
+use replica::summary::Summary;
+
+// A replica over its journal, on a disk or in a rehearsal. What is not done leaves it as it was, or synced.
+pub trait Desk {
+    // What its replica knows.
+    ghost state: { Self → State };
+
+    // Something of it is not synced.
+    ghost unsynced: { Self → Type 0 };
+
+    // Its journal failed: it takes no more until it is opened again.
+    ghost shut: { Self → Type 0 };
+
+    // What came of the letter that came last.
+    ghost came: { Self → List Outcome };
+
+    ghost kept_out: { Self → Option ℕ };
+
+    // Makes an entry, and syncs it.
+    fn make(&mut self, kind: Kind) -> Result<Mark, Unplayed>
+        ensures answer { MatchResult result
+            (λ m. (make_refusal (plain_kind kind) (state self.old) ≡ None) × (plain_mark m ≡ next_mark (state self.old)))
+            (λ e. Undone e (λ n. make_refusal (plain_kind kind) (state self.old) ≡ Some n) (shut self.new)) };
+
+    // Commits the first tentative entry, if there is one, and syncs that.
+    fn commit(&mut self) -> Result<Option<Mark>, Unplayed>
+        ensures answer { MatchResult result
+            (λ m. (is_primary (state self.old) ≡ true) × (option_map plain_mark m ≡ first_mark (state self.old).log.tentative))
+            (λ e. Undone e (λ n. (is_primary (state self.old) ≡ false) × (n ≡ 6)) (shut self.new)) };
+
+    // All that it knows is synced.
+    fn sync(&mut self) -> Result<(), Unplayed>
+        ensures answer { MatchResult result (λ _. unsynced self.new → ⊥) (λ e. Undone e (λ _. ⊥) (shut self.new)) };
+
+    // Syncs, and writes a letter for one that has what a summary says.
+    fn write(&mut self, has: &Summary, page: &mut Page) -> Result<(), Unplayed>
+        ensures answer { MatchResult result (λ _. Unit {0}) Unwritten };
+
+    // Bytes come, whatever they are.
+    fn hear(&mut self, bytes: &[u8]) -> Result<(), Unplayed>
+        ensures answer { MatchResult result (λ _. Unit {0}) (λ e. Undone e (λ _. ⊥) (shut self.new)) };
+
+    // The replica, to be shown: none where something of it is not synced.
+    fn shown(&self) -> Option<&Replica>
+        ensures { MatchOption result (unsynced self.now) (λ p. state_of p.now ≡ state self.now) };
+
+    // What came of the entries of the letter that came last, in its order.
+    fn outcomes(&self) -> &[Outcome]
+        ensures { result.now ≡ came self.now };
+
+    // How many of them were kept out; nothing where it was damaged, and kept out whole.
+    fn rejected(&self) -> Option<usize>
+        ensures { result ≡ kept_out self.now };
+}

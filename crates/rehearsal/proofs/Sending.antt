@@ -1,0 +1,65 @@
+-- A letter is written for what another hut has.
+use Rattle.std.proofs.Common.{◌≡◌, ◌<◌, ◌⊎◌, ℕ, List, [], ◌∷◌, ◌++◌, Option, None, MatchOption, get_or, length, vec_items, vec_len, ⊎_elim, refl, sym, ap, subst, ◌∙◌, append_assoc, arith}
+use Rattle.std.specs.Global.{Vec}
+use Rattle.std.proofs.lemmas.List.{get_or_default, length-map}
+use Rattle.network.specs.Casts.{Absent}
+use Rattle.entry_log.specs.Logs.{all_of}
+use Rattle.entry_log.specs.Vectors.{vector_of}
+use Rattle.journal.specs.History.{state_in, synced}
+use Rattle.network.proofs.Stages.{put_here, state_here}
+use Rattle.network.proofs.Stands.{after_sync}
+use Rattle.network.specs.Net.{Event, Net, Syncs, Writes, after, huts}
+use Rattle.network.specs.Stages.{Hut, Unsynced, huts_of, state_at}
+use Rattle.network.specs.Stands.{Stands}
+use Rattle.network.specs.declared.stage.Stage.{Stage}
+use Rattle.replica.specs.Model.{State}
+use Rattle.replica.specs.declared.summary.Summary.{Summary}
+use Rattle.rehearsal.specs.Carrying.{CanSend, PlacedAt, sends}
+
+some_hut : (qs : List Hut) (p : ℕ) → p < length qs → Hut
+some_hut [] p within = absurd (omega (arith, within))
+some_hut (q ∷ qs) p within = q
+
+low : (s : Stage) (es : List Event) (hut p : ℕ) → Stands s es → PlacedAt (huts_of s) hut p → hut < huts
+low s es hut p stands there = subst (λ (h : ℕ). h < huts) there.1 (stands.follows.small p there.0)
+
+-- the replica of a hut is the one that the hut has kept
+state_kept : (s : Stage) (es : List Event) (hut p : ℕ) → Stands s es → PlacedAt (huts_of s) hut p → state_at (huts_of s) p ≡ state_in ((after es).hut hut)
+state_kept s es hut p stands there =
+    let qs = huts_of s in
+    let q = some_hut qs p there.0 in
+    state_here qs p (get_or qs p q) there.0 (get_or_default qs p q (get_or qs p q) there.0)
+    ∙ (stands.follows.in_step p q there.0).state ∙ ap (λ (h : ℕ). state_in ((after es).hut h)) there.1
+
+-- a sync changes neither what a hut has nor the letters
+sync_keeps : (es : List Event) (hut : ℕ) → hut < huts → state_in ((after (es ++ Syncs hut ∷ [])).hut hut) ≡ state_in ((after es).hut hut)
+sync_keeps es hut low =
+    ap (λ (n : Net). state_in (n.hut hut)) (after_sync es hut low) ∙ ap state_in (put_here hut hut (synced ((after es).hut hut)) (after es).hut refl)
+
+-- once the receiver is synced, the stage has as many letters as were sent before
+pub next_letter :
+    (s : Stage) (es : List Event) (hut p : ℕ) → Stands s (es ++ Syncs hut ∷ []) → PlacedAt (huts_of s) hut p → vec_len s.letters ≡ length (after es).sent
+next_letter s es hut p stands there =
+    s.letters.ok.0 ∙ sym (length-map (vec_items s.letters) (λ (l : Vec ℕ). vec_items l)) ∙ stands.as_many
+    ∙ ap (λ (n : Net). length n.sent) (after_sync es hut (low s (es ++ Syncs hut ∷ []) hut p stands there))
+
+-- and what it is asked for is what it had
+pub sent_for :
+    (s t : Stage) (es : List Event) (from to p : ℕ) (has : Summary) → Stands s (es ++ Syncs to ∷ []) → PlacedAt (huts_of s) to p
+    → has.committed ≡ length (state_at (huts_of s) p).log.committed → has.vector.stamps ≡ vector_of (all_of (state_at (huts_of s) p).log)
+    → Stands t ((es ++ Syncs to ∷ []) ++ Writes from has.committed has.vector.stamps ∷ []) → Stands t (es ++ sends from to ((after es).hut to))
+sent_for s t es from to p has stands there count stamps on =
+    let same = state_kept s (es ++ Syncs to ∷ []) to p stands there ∙ sync_keeps es to (low s (es ++ Syncs to ∷ []) to p stands there) in
+    let count-is = count ∙ ap (λ (x : State). length x.log.committed) same in
+    let stamps-is = stamps ∙ ap (λ (x : State). vector_of (all_of x.log)) same in
+    subst (λ (now : List Event). Stands t now)
+    (append_assoc es (Syncs to ∷ []) (Writes from has.committed has.vector.stamps ∷ [])
+    ∙ ap (λ (x : ℕ). es ++ Syncs to ∷ Writes from x has.vector.stamps ∷ []) count-is ∙ ap (λ (v : List ℕ). es ++ Syncs to ∷ Writes from (length (state_in ((after es).hut to)).log.committed) v ∷ []) stamps-is) on
+
+-- where nothing is shown of the receiver, it is not there, or not synced
+pub cannot_send :
+    {X : Type 0} (s : Stage) (from to : ℕ) (r : Option X) (P : X → Type 0) → r ≡ None
+    → MatchOption r (Absent to (huts_of s) ⊎ ((p : ℕ) × PlacedAt (huts_of s) to p × Unsynced (huts_of s) p)) P → CanSend s from to → ⊥
+cannot_send s from to r P none told can =
+    ⊎_elim (λ absent. absent can.1.0 can.1.1.0 can.1.1.1) (λ unsynced. can.2 unsynced.0 unsynced.1 unsynced.2)
+    (subst (λ x. MatchOption x (Absent to (huts_of s) ⊎ ((p : ℕ) × PlacedAt (huts_of s) to p × Unsynced (huts_of s) p)) P) none told)
