@@ -1,11 +1,12 @@
 // What a line asks for is done.
-ghost use Rattle.std.specs.Prelude.{◌≡◌, Ok, Err, MatchResult};
+ghost use Rattle.std.specs.Prelude.{◌≡◌, ◌≤◌, length, Ok, Err, MatchResult, OnOk};
 ghost use Rattle.bookings.specs.Refusals.{number_of};
 ghost use Rattle.console.specs.Checks.{Fits32, StampsFit};
+ghost use Rattle.console.specs.Hexes.{bytes_of};
 ghost use Rattle.console.specs.declared.answer.Answer.TheVariants.{Refused as RefusedAnswer};
 ghost use Rattle.console.specs.declared.command.Command.TheVariants as commands;
 ghost use Rattle.desk.specs.Replies.{Shown, Hidden, Told, Untold};
-ghost use Rattle.desk.specs.declared.reply.Reply.TheVariants.{Line};
+ghost use Rattle.desk.specs.declared.reply.Reply.TheVariants.{Line, Takings};
 ghost use Rattle.network.specs.declared.unplayed.Unplayed.TheVariants.{Memory, Refused, Failed};
 ghost use Rattle.replica.specs.Views.{state_of};
 
@@ -34,9 +35,10 @@ pub fn ask<D: Desk>(
     command: &Command,
     letter: Hex,
 ) -> Result<Reply, Unplayed>
-    ensures { MatchResult result
+    ensures answer { MatchResult result
         (Told (D.state desk.old) (D.state desk.new) command.now)
         (Untold (D.state desk.old) (D.state desk.new) (D.shut desk.new) command.now) }
+    ensures taken { command.now ≡ commands.Take → OnOk result (length (bytes_of letter.entry.digits.now) ≤ 98345 → result ≡ Ok Takings) }
 {
     match command {
         Command::Make { request } => make(desk, request),
@@ -122,7 +124,8 @@ fn summary(committed: u64, vector: &RawVector) -> Result<Summary, Refusal>
 
 // A letter comes. One that has more bytes than any letter is none.
 fn hear<D: Desk>(desk: &mut D, page: &mut Page, letter: Hex) -> Result<Reply, Unplayed>
-    ensures { MatchResult result
+    ensures taken { OnOk result (length (bytes_of letter.entry.digits.now) ≤ 98345 → result ≡ Ok Takings) }
+    ensures answer { MatchResult result
         (Told (D.state desk.old) (D.state desk.new) commands.Take)
         (Untold (D.state desk.old) (D.state desk.new) (D.shut desk.new) commands.Take) }
 {

@@ -1,11 +1,12 @@
 -- A letter is written for what another hut has.
-use Rattle.std.proofs.Common.{◌≡◌, ◌<◌, ◌⊎◌, ℕ, List, [], ◌∷◌, ◌++◌, Option, None, MatchOption, get_or, length, vec_items, vec_len, ⊎_elim, refl, sym, ap, subst, ◌∙◌, append_assoc, arith}
+use Rattle.std.proofs.Common.{◌≡◌, ◌<◌, ◌≤◌, ◌⊎◌, ℕ, true, List, [], ◌∷◌, ◌++◌, Option, None, MatchOption, Result, Ok, Err, MatchResult, OnOk, get_or, length, vec_items, vec_len, ⊎_elim, inl, inr, refl, sym, ap, subst, ◌∙◌, append-nil, append_assoc, arith}
 use Rattle.std.specs.Global.{Vec}
+use Rattle.std.proofs.lemmas.Bool.{true≢false}
 use Rattle.std.proofs.lemmas.List.{get_or_default, length-map}
-use Rattle.network.specs.Casts.{Absent}
 use Rattle.entry_log.specs.Logs.{all_of}
 use Rattle.entry_log.specs.Vectors.{vector_of}
 use Rattle.journal.specs.History.{state_in, synced}
+use Rattle.journal.specs.Phases.{is_synced}
 use Rattle.network.proofs.Stages.{put_here, state_here}
 use Rattle.network.proofs.Stands.{after_sync}
 use Rattle.network.specs.Net.{Event, Net, Syncs, Writes, after, huts}
@@ -14,11 +15,23 @@ use Rattle.network.specs.Stands.{Stands}
 use Rattle.network.specs.declared.stage.Stage.{Stage}
 use Rattle.replica.specs.Model.{State}
 use Rattle.replica.specs.declared.summary.Summary.{Summary}
-use Rattle.rehearsal.specs.Carrying.{CanSend, PlacedAt, sends}
+use Rattle.rehearsal.specs.Carrying.{PlacedAt, sends}
 
 some_hut : (qs : List Hut) (p : ℕ) → p < length qs → Hut
 some_hut [] p within = absurd (omega (arith, within))
 some_hut (q ∷ qs) p within = q
+
+-- a replica that is synced does not wait to be
+not_unsynced :
+    (qs : List Hut) (p : ℕ) → p < length qs → ((q : Hut) → is_synced (get_or qs p q).journal.phase ≡ true) → Unsynced qs p → ⊥
+not_unsynced qs p within synced-is unsynced =
+    let q = some_hut qs p within in true≢false (sym (synced-is q) ∙ unsynced q)
+
+pub once_synced :
+    {X E : Type 0} (qs : List Hut) (p : ℕ) (r : Result X E) → p < length qs
+    → MatchResult r (λ _. (q : Hut) → is_synced (get_or qs p q).journal.phase ≡ true) (λ _. Unit {0}) → OnOk r (Unsynced qs p → ⊥)
+once_synced qs p (Ok x) within said = not_unsynced qs p within said
+once_synced qs p (Err e) within said = tt
 
 low : (s : Stage) (es : List Event) (hut p : ℕ) → Stands s es → PlacedAt (huts_of s) hut p → hut < huts
 low s es hut p stands there = subst (λ (h : ℕ). h < huts) there.1 (stands.follows.small p there.0)
@@ -56,10 +69,20 @@ sent_for s t es from to p has stands there count stamps on =
     (append_assoc es (Syncs to ∷ []) (Writes from has.committed has.vector.stamps ∷ [])
     ∙ ap (λ (x : ℕ). es ++ Syncs to ∷ Writes from x has.vector.stamps ∷ []) count-is ∙ ap (λ (v : List ℕ). es ++ Syncs to ∷ Writes from (length (state_in ((after es).hut to)).log.committed) v ∷ []) stamps-is) on
 
--- where nothing is shown of the receiver, it is not there, or not synced
-pub cannot_send :
-    {X : Type 0} (s : Stage) (from to : ℕ) (r : Option X) (P : X → Type 0) → r ≡ None
-    → MatchOption r (Absent to (huts_of s) ⊎ ((p : ℕ) × PlacedAt (huts_of s) to p × Unsynced (huts_of s) p)) P → CanSend s from to → ⊥
-cannot_send s from to r P none told can =
-    ⊎_elim (λ absent. absent can.1.0 can.1.1.0 can.1.1.1) (λ unsynced. can.2 unsynced.0 unsynced.1 unsynced.2)
-    (subst (λ x. MatchOption x (Absent to (huts_of s) ⊎ ((p : ℕ) × PlacedAt (huts_of s) to p × Unsynced (huts_of s) p)) P) none told)
+-- a replica that is synced is shown
+pub shows_synced :
+    {X : Type 0} (s : Stage) (p : ℕ) (r : Option X) (P : X → Type 0) → p < length (huts_of s)
+    → ((q : Hut) → is_synced (get_or (huts_of s) p q).journal.phase ≡ true) → r ≡ None → MatchOption r ((length (huts_of s) ≤ p) ⊎ Unsynced (huts_of s) p) P → ⊥
+shows_synced s p r P within synced none told =
+    ⊎_elim (λ behind. omega (arith, within, behind)) (not_unsynced (huts_of s) p within synced)
+    (subst (λ x. MatchOption x ((length (huts_of s) ≤ p) ⊎ Unsynced (huts_of s) p) P) none told)
+
+-- where no letter is written the sender is as it was, or synced
+pub unsent :
+    (t : Stage) (es more later : List Event) (from to : ℕ) → more ≡ Syncs to ∷ [] → (later ≡ []) ⊎ (later ≡ Syncs from ∷ []) → Stands t ((es ++ more) ++ later)
+    → Stands t es ⊎ Stands t (es ++ Syncs to ∷ []) ⊎ Stands t (es ++ Syncs to ∷ Syncs from ∷ [])
+unsent t es more later from to synced left on =
+    let begun = es ++ Syncs to ∷ [] in
+    let receiver = ap (λ (x : List Event). (es ++ x) ++ later) synced in
+    ⊎_elim (λ none. inr (inl (subst (Stands t) (receiver ∙ ap (λ (x : List Event). begun ++ x) none ∙ append-nil begun) on)))
+    (λ sender. inr (inr (subst (Stands t) (receiver ∙ ap (λ (x : List Event). begun ++ x) sender ∙ append_assoc es (Syncs to ∷ []) (Syncs from ∷ [])) on))) left

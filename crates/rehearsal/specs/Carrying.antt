@@ -7,7 +7,7 @@ use Rattle.network.specs.Acts.{Told, Denied, cut_of}
 use Rattle.network.specs.Casts.{Absent}
 use Rattle.network.specs.Net.{Event, Syncs, Writes, put}
 use Rattle.network.specs.Replicas.{committed_in, vector_in}
-use Rattle.network.specs.Stages.{Hut, Unsynced, bytes_sent, hut_at, huts_of}
+use Rattle.network.specs.Stages.{Hut, bytes_sent, hut_at, huts_of}
 use Rattle.network.specs.Stands.{Comes, Stands}
 use Rattle.network.specs.Taking.{take_bytes}
 use Rattle.network.specs.declared.act.Act.{Act}
@@ -53,10 +53,6 @@ bytes_by c k = get_or (bytes_sent c.rehearsal.stage) (letter_of (vec_items c.car
 -- there are a letter with that number, and that hut
 abbrev pub CanCome : Cast → (number hut : ℕ) → Type 0
 CanCome c k hut = Numbered (vec_items c.carried) (vec_len c.rehearsal.stage.letters) k × Present hut (huts_of c.rehearsal.stage)
-
--- both huts are there, and nothing of the second is unsynced
-abbrev pub CanSend : Stage → (from to : ℕ) → Type 0
-CanSend s from to = Present from (huts_of s) × Present to (huts_of s) × ((p : ℕ) → PlacedAt (huts_of s) to p → Unsynced (huts_of s) p → ⊥)
 
 -- refused by 2, and just where something does not hold; nothing else goes wrong
 abbrev pub RefusedUnless : Type 0 → Unplayed → Type 0

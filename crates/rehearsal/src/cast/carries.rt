@@ -7,11 +7,11 @@ ghost use Rattle.network.specs.Acts.{writes, comes_of};
 ghost use Rattle.network.specs.Casts.{Absent};
 ghost use Rattle.network.specs.Net.{Event, Syncs, Takes, Damaged, Crashes, after};
 ghost use Rattle.network.specs.Reached.{Promises};
-ghost use Rattle.network.specs.Stages.{Follows, bytes_sent, huts_of};
+ghost use Rattle.network.specs.Stages.{Follows, SameHuts, bytes_sent, huts_of};
 ghost use Rattle.network.specs.Stands.{Stands};
 ghost use Rattle.network.specs.Taking.{Reports};
 ghost use Rattle.network.specs.declared.unplayed.Unplayed.TheVariants.{Memory, Refused, Failed};
-ghost use Rattle.rehearsal.specs.Carrying.{CanCome, CanSend, CutsOff, DeniedBy, Numbered, Present, RefusedUnless, ToldBy, WentBy, bytes_by, letter_of, sends};
+ghost use Rattle.rehearsal.specs.Carrying.{CanCome, CutsOff, DeniedBy, Numbered, Present, RefusedUnless, ToldBy, WentBy, bytes_by, letter_of, sends};
 
 use super::Cast;
 use bookings::refusal::Refusal;
@@ -29,6 +29,7 @@ impl Cast {
         ensures steps { (es : List Event) → Stands self.old.rehearsal.stage es → WentBy self.new.rehearsal.stage hut act.now result es }
         ensures report { (kept : ℕ → Kept) → Follows (huts_of self.old.rehearsal.stage) kept → OnOk result
             (MatchOption (comes_of (bytes_sent self.old.rehearsal.stage) act.now) (Unit {0}) (λ bs. Reports self.new.rehearsal.stage.report (read_letter bs) (kept hut))) }
+        ensures places { SameHuts (huts_of self.old.rehearsal.stage) (huts_of self.new.rehearsal.stage) }
         ensures promised { self.new.rehearsal.forged ≡ false → Promises self.new.rehearsal.stage }
         ensures forged { self.new.rehearsal.forged ≡ self.old.rehearsal.forged }
         ensures current { self.new.current ≡ self.old.current }
@@ -42,21 +43,25 @@ impl Cast {
     pub fn send(&mut self, heap: Global, from: u64, to: u64) -> Result<u64, Unplayed>
         ensures answer { MatchResult result
             (λ k. Present from (huts_of self.old.rehearsal.stage) × Present to (huts_of self.old.rehearsal.stage) × (k ≡ vec_len self.new.carried))
-            (λ e. elim e [ Memory ↦ Unit {0} | Refused w ↦ (number_of w ≡ 2) × (CanSend self.new.rehearsal.stage from to → ⊥) | Failed f ↦ ⊥ ]) }
+            (λ e. elim e [ Memory ↦ Unit {0} | Refused w ↦ (number_of w ≡ 2) × (Present from (huts_of self.old.rehearsal.stage) × Present to (huts_of self.old.rehearsal.stage) → ⊥) | Failed f ↦ ⊥ ]) }
         ensures noted { (es : List Event) → Stands self.old.rehearsal.stage es → OnOk result (self.new.carried.items ≡ self.old.carried.items ++ length (after es).sent ∷ []) }
         ensures unnoted { OnErr result (self.new.carried.items ≡ self.old.carried.items) }
         ensures steps { (es : List Event) → Stands self.old.rehearsal.stage es → OnOk result (Stands self.new.rehearsal.stage (es ++ sends from to ((after es).hut to))) }
         ensures unsent { (es : List Event) → Stands self.old.rehearsal.stage es → OnErr result
             (Stands self.new.rehearsal.stage es ⊎ Stands self.new.rehearsal.stage (es ++ Syncs to ∷ []) ⊎ Stands self.new.rehearsal.stage (es ++ Syncs to ∷ Syncs from ∷ [])) }
+        ensures places { SameHuts (huts_of self.old.rehearsal.stage) (huts_of self.new.rehearsal.stage) }
         ensures promised { self.new.rehearsal.forged ≡ false → Promises self.new.rehearsal.stage }
         ensures forged { self.new.rehearsal.forged ≡ self.old.rehearsal.forged }
         ensures current { self.new.current ≡ self.old.current }
     {
+        let sender = self.place(from)?;
+        let receiver = self.place(to)?;
         self.carried.reserve(1)?;
-        self.place(from)?;
-        self.tell(heap, to, &Act::Sync)?;
-        let has = self.replica(to).ok_or(Refusal::OutOfRange)?.summary();
-        match self.tell(heap, from, &Act::Write(has))? {
+        self.rehearsal.play(heap, receiver, &Act::Sync)?;
+        // It is synced, so it is shown: this refusal never comes.
+        let replica = self.rehearsal.shown(receiver).ok_or(Refusal::OutOfRange)?;
+        let has = replica.summary();
+        match self.rehearsal.play(heap, sender, &Act::Write(has))? {
             Done::Written(letter) => {
                 self.carried.push_reserved(letter);
                 // No `From` makes a u64 of a usize; nothing is lost by `as`.
@@ -88,6 +93,7 @@ impl Cast {
             (Stands self.new.rehearsal.stage (es ++ Takes to (letter_of self.old.carried.items number) ∷ [])) }
         ensures report { (kept : ℕ → Kept) → Follows (huts_of self.old.rehearsal.stage) kept → OnOk result
             (Reports self.new.rehearsal.stage.report (read_letter (bytes_by self.old number)) (kept to)) }
+        ensures places { SameHuts (huts_of self.old.rehearsal.stage) (huts_of self.new.rehearsal.stage) }
         ensures promised { self.new.rehearsal.forged ≡ false → Promises self.new.rehearsal.stage }
         ensures forged { self.new.rehearsal.forged ≡ self.old.rehearsal.forged }
         ensures current { self.new.current ≡ self.old.current }
@@ -106,6 +112,7 @@ impl Cast {
             (Stands self.new.rehearsal.stage (es ++ Damaged to ∷ []) ⊎ Stands self.new.rehearsal.stage (es ++ Takes to (letter_of self.old.carried.items number) ∷ [])) }
         ensures report { (kept : ℕ → Kept) → Follows (huts_of self.old.rehearsal.stage) kept → OnOk result
             (Reports self.new.rehearsal.stage.report (read_letter (take bytes (bytes_by self.old number))) (kept to)) }
+        ensures places { SameHuts (huts_of self.old.rehearsal.stage) (huts_of self.new.rehearsal.stage) }
         ensures promised { self.new.rehearsal.forged ≡ false → Promises self.new.rehearsal.stage }
         ensures forged { self.new.rehearsal.forged ≡ self.old.rehearsal.forged }
         ensures current { self.new.current ≡ self.old.current }
@@ -126,6 +133,7 @@ impl Cast {
         ensures refused { OnErr result (self.new.rehearsal ≡ self.old.rehearsal) }
         ensures steps { (es : List Event) → Stands self.old.rehearsal.stage es → OnOk result
             ((lost : ℕ) × Stands self.new.rehearsal.stage (es ++ Crashes hut lost ∷ Syncs hut ∷ [])) }
+        ensures places { SameHuts (huts_of self.old.rehearsal.stage) (huts_of self.new.rehearsal.stage) }
         ensures promised { self.new.rehearsal.forged ≡ false → Promises self.new.rehearsal.stage }
         ensures forged { self.new.rehearsal.forged ≡ self.old.rehearsal.forged }
         ensures current { self.new.current ≡ self.old.current }

@@ -8,7 +8,7 @@ ghost use Rattle.network.specs.Acts.{Told, Denied, writes, comes_of};
 ghost use Rattle.network.specs.Casts.{Absent, CastOk, Opens};
 ghost use Rattle.network.specs.Net.{Event};
 ghost use Rattle.network.specs.Reached.{Promises};
-ghost use Rattle.network.specs.Stages.{Follows, Unsynced, Unwritten, bytes_sent, hut_at, huts_of};
+ghost use Rattle.network.specs.Stages.{Follows, SameHuts, Unsynced, Unwritten, bytes_sent, hut_at, huts_of};
 ghost use Rattle.network.specs.Stands.{Stands, Went};
 ghost use Rattle.network.specs.Taking.{Reports};
 ghost use Rattle.network.specs.declared.act.Act.TheVariants as acts;
@@ -69,6 +69,7 @@ impl Cast {
         ensures report { (kept : ℕ → Kept) → Follows (huts_of self.old.rehearsal.stage) kept → OnOk result
             (MatchOption (comes_of (bytes_sent self.old.rehearsal.stage) act.now) (Unit {0})
             (λ bs. Reports self.new.rehearsal.stage.report (read_letter bs) (kept (hut_at (huts_of self.old.rehearsal.stage) self.old.current)))) }
+        ensures places { SameHuts (huts_of self.old.rehearsal.stage) (huts_of self.new.rehearsal.stage) }
         ensures promised { self.new.rehearsal.forged ≡ false → Promises self.new.rehearsal.stage }
         ensures forged { self.new.rehearsal.forged ≡ self.old.rehearsal.forged }
         ensures clean { act.now ≡ acts.Sync → OnOk result (Unsynced (huts_of self.new.rehearsal.stage) self.new.current → ⊥) }
@@ -88,6 +89,7 @@ impl Cast {
         ensures letters { self.new.rehearsal.stage.letters ≡ self.old.rehearsal.stage.letters }
         ensures honest { self.old.rehearsal.forged ≡ false → read_letter bytes.now ≡ damaged → self.new.rehearsal.forged ≡ false }
         ensures written { self.old.rehearsal.forged ≡ false → (Unwritten (bytes_sent self.old.rehearsal.stage) bytes.now → ⊥) → self.new.rehearsal.forged ≡ false }
+        ensures places { SameHuts (huts_of self.old.rehearsal.stage) (huts_of self.new.rehearsal.stage) }
         ensures promised { self.new.rehearsal.forged ≡ false → Promises self.new.rehearsal.stage }
         ensures current { self.new.current ≡ self.old.current }
         ensures carried { self.new.carried ≡ self.old.carried }

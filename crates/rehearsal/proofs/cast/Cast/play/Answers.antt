@@ -1,0 +1,10 @@
+use Rattle.std.proofs.Common.{arith}
+use Rattle.network.specs.Stages.{huts_of}
+use Rattle.rehearsal.proofs.Sending.{once_synced}
+use Rattle.rehearsal.proofs.cast.Cast.play.Goals as goal
+
+pub returns-clause-clean : goal.returns-clause-clean
+returns-clause-clean c = λ sync.
+    let cast = c.args.self.now in
+    let stage = c.play.new.self.stage in
+    once_synced (huts_of stage) cast.current c.play.result (omega (arith, cast.within, c.play.ensures.many, stage.keepers.ok.0)) (c.play.ensures.clean sync)
