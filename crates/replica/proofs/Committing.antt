@@ -1,10 +1,10 @@
 -- A log with a committed entry more: what stands before its place stays, and what a head says of it.
-use Rattle.std.proofs.Common.{◌≡◌, ℕ, ◌+◌, ◌<◌, ◌≤◌, max, true, false, [], ◌∷◌, ◌++◌, length, take, sym, refl, ap, ◌∙◌, arith, length-append}
+use Rattle.std.proofs.Common.{◌≡◌, ℕ, ◌+◌, ◌<◌, ◌≤◌, max, true, false, List, Some, [], ◌∷◌, ◌++◌, length, take, sym, refl, ap, ◌∙◌, arith, length-append}
 use Rattle.std.proofs.lemmas.List.{append_assoc, take_at}
 use Rattle.bookings.specs.Plain.{PlainEntry}
-use Rattle.entry_log.proofs.Putting.{length_without, without_none, times-append}
+use Rattle.entry_log.proofs.Putting.{length_without, without_none, none_has, has_some, same_self, times-append}
 use Rattle.entry_log.proofs.Stamps.{top-append, top-without, highest-append, highest-cons, highest-without, vector_more, vector_same}
-use Rattle.entry_log.specs.Logs.{PlainLog, all_of, has, without, top, add_committed}
+use Rattle.entry_log.specs.Logs.{PlainLog, all_of, has, without, top, first_entry, add_committed}
 use Rattle.entry_log.specs.Order.{times, Once}
 use Rattle.entry_log.specs.Vectors.{vector_of, noted, highest}
 
@@ -54,3 +54,13 @@ module _ (e : PlainEntry) (l : PlainLog) where
       (λ h.
       let rest = ap (λ es. highest (e ∷ es) h) (without_none e.mark l.tentative new) in
       omega (arith, committed-highest h, highest-cons e l.tentative h, highest-cons e (all_of l) h, highest-append l.committed l.tentative h)))
+
+-- the first tentative entry is no committed one
+pub first_known : (l : PlainLog) (ts : List PlainEntry) (e : PlainEntry) → l.tentative ≡ ts → first_entry ts ≡ Some e → has e.mark l.tentative ≡ true
+first_known l [] e is first = absurd (let z : ◌≡◌ {A = ℕ} 0 1 = cc in omega arith)
+first_known l (f ∷ fs) e is first =
+    let same : f ≡ e = cc in ap (has e.mark) (is ∙ ap (λ x. x ∷ fs) same) ∙ rw (same_self e.mark) refl
+
+pub first_uncommitted : (l : PlainLog) (e : PlainEntry) → first_entry l.tentative ≡ Some e → Once (all_of l) → has e.mark l.committed ≡ false
+first_uncommitted l e first once =
+    none_has e.mark l.committed (omega (arith, once e.mark, times-append e.mark l.committed l.tentative, has_some e.mark l.tentative (first_known l l.tentative e refl first)))

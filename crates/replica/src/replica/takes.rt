@@ -61,10 +61,6 @@ impl Replica {
         requires known { has (plain «entry»).mark (state_of self.old).log.tentative ≡ true }
         ensures { state_of self.new ≡ with_committed (plain «entry») (state_of self.old) }
     {
-        if self.log.is_next(&entry) {
-            self.log.commit_first();
-            return;
-        }
         let place = self.log.committed();
         self.log.settle(entry);
         redo_log(&mut self.book, self.log.as_slice(), place);
@@ -88,6 +84,11 @@ impl Replica {
             (λ _. (take_committed_refusal place (plain «entry»).mark (state_of self.old) ≡ None) × (state_of self.new ≡ with_committed (plain «entry») (state_of self.old)))
             (λ e. (take_committed_refusal place (plain «entry»).mark (state_of self.old) ≡ Some (number_of e)) × (state_of self.new ≡ state_of self.old)) }
     {
+        // Where entries come in the order in which they stand, no mark is looked for.
+        if place == self.log.committed() && self.log.is_next(&entry) {
+            self.log.commit_first();
+            return Ok(());
+        }
         if self.has_committed(&entry.mark) {
             return Err(Refusal::Known);
         }

@@ -25,8 +25,8 @@ redo_log-requires c =
       front = shares_front was.log (book_in was.book) was.in_step c.committed-place.ensures (c.as_slice.ensures ∙ after) (committed_front e l);
     }
 
-pub invariant_of-self-2 : goal.invariant_of-self-2
-invariant_of-self-2 c =
+pub invariant_of-self : goal.invariant_of-self
+invariant_of-self c =
     let was = c.args.self.now in
     let l = log_in was.log in
     let e = plain c.args.entry in
