@@ -1,8 +1,10 @@
+pub mod Anew
 pub mod Back
 pub mod Deeds
 pub mod Each
 pub mod Find
 pub mod Fit
+pub mod Gone
 pub mod Over
 pub mod Ranged
 pub mod Reach

@@ -58,7 +58,7 @@ nobody_stands : (b : PlainBook) (own m : PlainMark) (k : PlainKind) → Names k 
 nobody_stands b own m k by_cancel none = record { beds = rw none refl; booked = rw none refl; own = freed None; outcomes = rw none refl; holds-nothing = refl }
 nobody_stands b own m k by_change none = record { beds = rw none refl; booked = rw none refl; own = nothing; outcomes = rw none refl; holds-nothing = refl }
 
-came_standing : (b : PlainBook) (m : PlainMark) (o : PlainOutcome) (came : CameTo b m o) → standing b.marks b.outcomes m ≡ standing_with came.0 (held_by o)
+pub came_standing : (b : PlainBook) (m : PlainMark) (o : PlainOutcome) (came : CameTo b m o) → standing b.marks b.outcomes m ≡ standing_with came.0 (held_by o)
 came_standing b m o came = ap (standing_at b.outcomes) came.1 ∙ ap (λ q. standing_with came.0 (held_by q)) came.2
 
 pub old_mark-does-nothing : OldMarkDoesNothing

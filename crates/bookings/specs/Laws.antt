@@ -1,5 +1,5 @@
 -- What holds of every book that entries in range make, in the words of bookings.
-use Rattle.std.specs.Prelude.{◌≡◌, ℕ, ◌+◌, ◌<◌, ◌≤◌, max, Bool, cond, ◌&&◌, ◌⊎◌, List, [], ◌∷◌, ◌++◌, length, Some, None, Option, ◌==◌, nat_le, nat_lt, slice_index, slice_index_or}
+use Rattle.std.specs.Prelude.{◌≡◌, ℕ, ◌+◌, ◌<◌, ◌≤◌, max, Bool, cond, ◌&&◌, ◌⊎◌, List, [], ◌∷◌, ◌++◌, length, Some, None, Option, ◌==◌, nat_le, nat_lt, slice_index, slice_index_or, slice_set}
 use Rattle.bookings.specs.Books.{PlainBook, does, book_of, place_from}
 use Rattle.bookings.specs.Nights.{place_of, release}
 use Rattle.bookings.specs.Outcomes.{PlainGrant, PlainOutcome, holds, nothing, cancelled, changed, held_by}
@@ -108,3 +108,49 @@ BedsAreSet =
     (es : List PlainEntry) (m : PlainMark) (c : PlainChoice) → Each InRange es → SupplyOk c → (hut night : ℕ) → hut < 16 → night < 366
     → beds_on (does (record { mark = m; kind = supply c }) (book_of es)) hut night
     ≡ cond (covers c.stay hut night) (max c.beds (booked_on (book_of es) hut night)) (beds_on (book_of es) hut night)
+
+-- LAW: a cancellation of a booking that holds a choice gives its beds back, on its nights and no others, and it is cancelled.
+abbrev pub CancelFrees : Type 0
+CancelFrees =
+    (es : List PlainEntry) (own m : PlainMark) (g : PlainGrant) → Each InRange es → CameTo (book_of es) m (holds g)
+    → ((does (record { mark = own; kind = cancel m }) (book_of es)).beds ≡ (book_of es).beds)
+    × ((hut night : ℕ) → hut < 16 → night < 366
+    → booked_on (does (record { mark = own; kind = cancel m }) (book_of es)) hut night + beds_of g.choice hut night ≡ booked_on (book_of es) hut night)
+    × CameTo (does (record { mark = own; kind = cancel m }) (book_of es)) m (cancelled g)
+
+-- LAW: what was cancelled holds nothing, whatever is done after that.
+abbrev pub CancelLasts : Type 0
+CancelLasts =
+    (front back : List PlainEntry) (c : PlainEntry) (m : PlainMark) (g : PlainGrant) → c.kind ≡ cancel m → Stands (book_of front) m
+    → CameTo (book_of (front ++ c ∷ back)) m (holds g) → ⊥
+
+-- a change gets what a new booking gets, and leaves the same beds and bookings; what it changes is changed, and what came of all others stays
+pub record ChangedAs (own m : PlainMark) (g h : PlainGrant) (was anew now : PlainBook) : Type 0 where
+  pub beds : now.beds ≡ anew.beds
+  pub booked : now.booked ≡ anew.booked
+  pub old : CameTo now m (changed g own)
+  pub got : PlainGrant
+  pub outcomes : now.outcomes ≡ slice_set was.outcomes old.0 (changed g own) ++ holds got ∷ []
+  pub number : got.number ≡ h.number
+  pub choice : got.choice ≡ h.choice
+
+-- or it does nothing, and gets nothing
+pub record LeftAll (was now : PlainBook) : Type 0 where
+  pub beds : now.beds ≡ was.beds
+  pub booked : now.booked ≡ was.booked
+  pub outcomes : now.outcomes ≡ was.outcomes ++ nothing ∷ []
+
+-- of a book, the one after a cancellation, the one after a new booking behind that, and the one after the change
+abbrev pub CancelThenBook : PlainMark → PlainMark → PlainGrant → PlainBook → PlainBook → PlainBook → PlainBook → Type 0
+CancelThenBook own m g was gone anew now =
+    ((h : PlainGrant) × (anew.outcomes ≡ gone.outcomes ++ holds h ∷ []) × ChangedAs own m g h was anew now)
+    ⊎ ((anew.outcomes ≡ gone.outcomes ++ nothing ∷ []) × LeftAll was now)
+
+-- LAW: a change of a booking that holds a choice is the same as to cancel it and to book anew with the choices of the change; but where the new booking
+-- gets nothing, the change leaves all as it was.
+abbrev pub ChangeIsCancelThenBook : Type 0
+ChangeIsCancelThenBook =
+    (es : List PlainEntry) (own m c n : PlainMark) (guest : ℕ) (cs : List PlainChoice) (g : PlainGrant) → CameTo (book_of es) m (holds g)
+    → CancelThenBook own m g (book_of es) (does (record { mark = c; kind = cancel m }) (book_of es))
+    (does (record { mark = n; kind = book guest cs }) (does (record { mark = c; kind = cancel m }) (book_of es)))
+    (does (record { mark = own; kind = change m cs }) (book_of es))

@@ -1,5 +1,5 @@
 // The laws of bookings: each function's contract is a law, over every list of entries in range.
-ghost use Rattle.bookings.specs.Laws.{NeverOverbooked, BookedIsHeld, GetsFirstFree, UndoGivesBack, OldMarkDoesNothing, ChangeNotFreeDoesNothing, UnknownMarkDoesNothing, BedsAreSet};
+ghost use Rattle.bookings.specs.Laws.{NeverOverbooked, BookedIsHeld, GetsFirstFree, UndoGivesBack, OldMarkDoesNothing, ChangeNotFreeDoesNothing, UnknownMarkDoesNothing, BedsAreSet, CancelFrees, CancelLasts, ChangeIsCancelThenBook};
 
 // On no night are more beds booked than there are.
 pub fn never_overbooked()
@@ -39,4 +39,19 @@ pub fn unknown_mark_does_nothing()
 // A change of beds sets those of its nights, but to no fewer than are booked, and leaves all others.
 pub fn beds_are_set()
     ensures { BedsAreSet }
+{}
+
+// A cancellation of a booking that holds a choice gives its beds back.
+pub fn cancel_frees()
+    ensures { CancelFrees }
+{}
+
+// What was cancelled holds nothing from then on.
+pub fn cancel_lasts()
+    ensures { CancelLasts }
+{}
+
+// A change is a cancellation and a new booking, or does nothing.
+pub fn change_is_cancel_then_book()
+    ensures { ChangeIsCancelThenBook }
 {}

@@ -1,9 +1,14 @@
 // What the lines of a hut call.
-ghost use Rattle.std.specs.Prelude.{◌≡◌, ℕ, true, false, List, None, Some, Option, MatchOption, MatchResult};
+ghost use Rattle.std.specs.Prelude.{◌≡◌, ℕ, true, false, ◌⊎◌, List, map, None, Some, Option, MatchOption, MatchResult, OnOk};
 ghost use Rattle.std.specs.Option.{option_map};
 ghost use Rattle.bookings.specs.Plain.{plain_kind, plain_mark};
 ghost use Rattle.desk.specs.Failures.{Undone, Unwritten};
+ghost use Rattle.desk.specs.Steps.{Rests};
 ghost use Rattle.entry_log.specs.Logs.{first_mark};
+ghost use Rattle.journal.specs.History.{Kept, synced, makes, commits};
+ghost use Rattle.letters.specs.Items.{items_of};
+ghost use Rattle.letters.specs.Letters.{encode_letter, read_letter};
+ghost use Rattle.network.specs.Taking.{letter_for, outcomes_of, plain_outcome, take_bytes, told_out};
 ghost use Rattle.network.specs.declared.outcome.Outcome.{Outcome};
 ghost use Rattle.replica.specs.Model.{State, make_refusal, next_mark, is_primary};
 ghost use Rattle.replica.specs.Views.{state_of};
@@ -20,6 +25,9 @@ pub trait Desk {
     // What its replica knows.
     ghost state: { Self → State };
 
+    // What is kept of it: the history of its journal.
+    ghost keeps: { Self → Kept → Type 0 };
+
     // Something of it is not synced.
     ghost unsynced: { Self → Type 0 };
 
@@ -35,25 +43,33 @@ pub trait Desk {
     fn make(&mut self, kind: Kind) -> Result<Mark, Unplayed>
         ensures answer { MatchResult result
             (λ m. (make_refusal (plain_kind kind) (state self.old) ≡ None) × (plain_mark m ≡ next_mark (state self.old)))
-            (λ e. Undone e (λ n. make_refusal (plain_kind kind) (state self.old) ≡ Some n) (shut self.new)) };
+            (λ e. Undone e (λ n. make_refusal (plain_kind kind) (state self.old) ≡ Some n) (shut self.new)) }
+        ensures keeps { (k : Kept) → keeps self.old k → MatchResult result (λ _. keeps self.new (synced (makes (plain_kind kind) k))) (Rests (keeps self.new) k) };
 
     // Commits the first tentative entry, if there is one, and syncs that.
     fn commit(&mut self) -> Result<Option<Mark>, Unplayed>
         ensures answer { MatchResult result
             (λ m. (is_primary (state self.old) ≡ true) × (option_map plain_mark m ≡ first_mark (state self.old).log.tentative))
-            (λ e. Undone e (λ n. (is_primary (state self.old) ≡ false) × (n ≡ 6)) (shut self.new)) };
+            (λ e. Undone e (λ n. (is_primary (state self.old) ≡ false) × (n ≡ 6)) (shut self.new)) }
+        ensures keeps { (k : Kept) → keeps self.old k → MatchResult result (λ _. keeps self.new (commits k) ⊎ keeps self.new (synced (commits k))) (Rests (keeps self.new) k) };
 
     // All that it knows is synced.
     fn sync(&mut self) -> Result<(), Unplayed>
-        ensures answer { MatchResult result (λ _. unsynced self.new → ⊥) (λ e. Undone e (λ _. ⊥) (shut self.new)) };
+        ensures answer { MatchResult result (λ _. unsynced self.new → ⊥) (λ e. Undone e (λ _. ⊥) (shut self.new)) }
+        ensures keeps { (k : Kept) → keeps self.old k → MatchResult result (λ _. keeps self.new (synced k)) (Rests (keeps self.new) k) };
 
     // Syncs, and writes a letter for one that has what a summary says.
     fn write(&mut self, has: &Summary, page: &mut Page) -> Result<(), Unplayed>
-        ensures answer { MatchResult result (λ _. Unit {0}) Unwritten };
+        ensures answer { MatchResult result (λ _. Unit {0}) Unwritten }
+        ensures letter { OnOk result (page.new.bytes.items ≡ encode_letter (letter_for has.now.committed has.now.vector.stamps (state self.old))) }
+        ensures keeps { (k : Kept) → keeps self.old k → MatchResult result (λ _. keeps self.new (synced k)) (Rests (keeps self.new) k) };
 
     // Bytes come, whatever they are.
     fn hear(&mut self, bytes: &[u8]) -> Result<(), Unplayed>
-        ensures answer { MatchResult result (λ _. Unit {0}) (λ e. Undone e (λ _. ⊥) (shut self.new)) };
+        ensures answer { MatchResult result (λ _. Unit {0}) (λ e. Undone e (λ _. ⊥) (shut self.new)) }
+        ensures keeps { (k : Kept) → keeps self.old k → MatchResult result (λ _. keeps self.new (take_bytes bytes.now k)) (Rests (keeps self.new) k) }
+        ensures report { (k : Kept) → keeps self.old k → OnOk result
+            ((kept_out self.new ≡ told_out (read_letter bytes.now)) × (map plain_outcome (came self.new) ≡ outcomes_of (items_of (read_letter bytes.now)) k)) };
 
     // The replica, to be shown: none where something of it is not synced.
     fn shown(&self) -> Option<&Replica>

@@ -1,13 +1,15 @@
 // A replica over its journal, with all that its lines need.
-ghost use Rattle.std.specs.Prelude.{◌≡◌, true, false, [], Some, IfOk, MatchOption, MatchResult};
+ghost use Rattle.std.specs.Prelude.{◌≡◌, ◌⊎◌, true, false, [], Some, IfOk, MatchOption, MatchResult, OnOk};
 ghost use Rattle.std.specs.Option.{option_map};
 ghost use Rattle.bookings.specs.Plain.{plain_kind, plain_mark};
 ghost use Rattle.desk.specs.Failures.{Undone, Unwritten};
-ghost use Rattle.desk.specs.Steps.{Leaves};
+ghost use Rattle.desk.specs.Steps.{Leaves, Rests};
 ghost use Rattle.entry_log.specs.Logs.{first_mark};
 ghost use Rattle.journal.specs.History.{Kept, synced, makes, commits};
 ghost use Rattle.journal.specs.Keeping.{InStep, Moves, state_by};
+ghost use Rattle.letters.specs.Laws.{LetterOk};
 ghost use Rattle.letters.specs.Letters.{encode_letter, read_letter};
+ghost use Rattle.network.specs.declared.unplayed.Unplayed.TheVariants.{Memory, Refused, Failed};
 ghost use Rattle.network.specs.Taking.{Reports, letter_for, take_bytes};
 ghost use Rattle.replica.specs.Model.{make_refusal, next_mark, is_primary};
 
@@ -52,6 +54,8 @@ impl<J: Journal + Drop> Station<J> {
 impl<J: Journal + Drop> Desk for Station<J> {
     ghost state = { λ s. state_by s.keeper };
 
+    ghost keeps = { λ s k. InStep J.keeps s.keeper k };
+
     ghost unsynced = { λ s. J.clean s.keeper.journal ≡ false };
 
     ghost shut = { λ s. J.shut s.keeper.journal ≡ true };
@@ -67,6 +71,7 @@ impl<J: Journal + Drop> Desk for Station<J> {
         ensures kept { MatchResult result
             (λ _. Moves J.Journal.keeps self.old.keeper self.new.keeper (λ k. synced (makes (plain_kind kind) k)))
             (Leaves J.Journal.keeps J.Journal.lasts self.old.keeper self.new.keeper) }
+        ensures keeps { (k : Kept) → InStep J.Journal.keeps self.old.keeper k → MatchResult result (λ _. InStep J.Journal.keeps self.new.keeper (synced (makes (plain_kind kind) k))) (Rests (InStep J.Journal.keeps self.new.keeper) k) }
     {
         Ok(self.keeper.make(kind)?)
     }
@@ -80,6 +85,7 @@ impl<J: Journal + Drop> Desk for Station<J> {
             (Moves J.Journal.keeps self.old.keeper self.new.keeper commits)
             (λ _. Moves J.Journal.keeps self.old.keeper self.new.keeper (λ k. synced (commits k))))
             (Leaves J.Journal.keeps J.Journal.lasts self.old.keeper self.new.keeper) }
+        ensures keeps { (k : Kept) → InStep J.Journal.keeps self.old.keeper k → MatchResult result (λ _. InStep J.Journal.keeps self.new.keeper (commits k) ⊎ InStep J.Journal.keeps self.new.keeper (synced (commits k))) (Rests (InStep J.Journal.keeps self.new.keeper) k) }
     {
         Ok(self.keeper.commit()?)
     }
@@ -92,6 +98,7 @@ impl<J: Journal + Drop> Desk for Station<J> {
             (λ _. Moves J.Journal.keeps self.old.keeper self.new.keeper synced)
             (Leaves J.Journal.keeps J.Journal.lasts self.old.keeper self.new.keeper) }
         ensures state { state_by self.new.keeper ≡ state_by self.old.keeper }
+        ensures keeps { (k : Kept) → InStep J.Journal.keeps self.old.keeper k → MatchResult result (λ _. InStep J.Journal.keeps self.new.keeper (synced k)) (Rests (InStep J.Journal.keeps self.new.keeper) k) }
     {
         self.keeper.sync()?;
         Ok(())
@@ -99,12 +106,13 @@ impl<J: Journal + Drop> Desk for Station<J> {
 
     fn write(&mut self, has: &Summary, page: &mut Page) -> Result<(), Unplayed>
         ensures answer { MatchResult result (λ _. Unit {0}) Unwritten }
-        ensures letter { MatchResult result
-            (λ _. page.new.bytes.items ≡ encode_letter (letter_for has.now.committed has.now.vector.stamps (state_by self.old.keeper)))
-            (λ _. Unit {0}) }
+        ensures room { MatchResult result (λ _. Unit {0}) (λ e. elim e [ Memory ↦ ⊥ | Refused w ↦ ⊥ | Failed f ↦ Unit {0} ]) }
+        ensures lawful { OnOk result (LetterOk (letter_for has.now.committed has.now.vector.stamps (state_by self.old.keeper))) }
+        ensures letter { OnOk result (page.new.bytes.items ≡ encode_letter (letter_for has.now.committed has.now.vector.stamps (state_by self.old.keeper))) }
         ensures kept { MatchResult result
             (λ _. Moves J.Journal.keeps self.old.keeper self.new.keeper synced)
             (Leaves J.Journal.keeps J.Journal.lasts self.old.keeper self.new.keeper) }
+        ensures keeps { (k : Kept) → InStep J.Journal.keeps self.old.keeper k → MatchResult result (λ _. InStep J.Journal.keeps self.new.keeper (synced k)) (Rests (InStep J.Journal.keeps self.new.keeper) k) }
     {
         page.bytes.clear();
         letter_for(&mut self.keeper, has, &mut self.parcel, &mut page.bytes)?;
@@ -116,9 +124,8 @@ impl<J: Journal + Drop> Desk for Station<J> {
         ensures kept { MatchResult result
             (λ _. Moves J.Journal.keeps self.old.keeper self.new.keeper (take_bytes bytes.now))
             (Leaves J.Journal.keeps J.Journal.lasts self.old.keeper self.new.keeper) }
-        ensures report { MatchResult result
-            (λ _. (k : Kept) → InStep J.Journal.keeps self.old.keeper k → Reports self.new.report (read_letter bytes.now) k)
-            (λ _. Unit {0}) }
+        ensures report { (k : Kept) → InStep J.Journal.keeps self.old.keeper k → OnOk result (Reports self.new.report (read_letter bytes.now) k) }
+        ensures keeps { (k : Kept) → InStep J.Journal.keeps self.old.keeper k → MatchResult result (λ _. InStep J.Journal.keeps self.new.keeper (take_bytes bytes.now k)) (Rests (InStep J.Journal.keeps self.new.keeper) k) }
     {
         take(&mut self.keeper, bytes, &mut self.report)?;
         Ok(())

@@ -1,8 +1,9 @@
 -- Where a mark stands among entries of the code.
-use Rattle.std.proofs.Common.{◌≡◌, ℕ, Bool, refl, ◌-◌, ◌<◌, ◌≤◌, true, false, not, List, [], ◌∷◌, map, length, get_or, Some, None, Option, arith, ⊎_elim}
+use Rattle.std.proofs.Common.{◌≡◌, ℕ, Bool, refl, ◌-◌, ◌<◌, ◌≤◌, true, false, not, List, [], ◌∷◌, map, length, get_or, slice_get, Some, None, Option, ap, ◌∙◌, arith, ⊎_elim}
 use lib.ListN.{length-map}
 use Rattle.std.proofs.lemmas.Bool.{cases_Bool, cases_lt}
 use Rattle.std.proofs.lemmas.List.{get_or-map}
+use Rattle.std.proofs.lemmas.Option.{get_or_from_slice_get, slice_get_within}
 use Rattle.std.specs.List.{AllWithin, HoldsAt}
 use Rattle.std.specs.Option.{MatchOption}
 use Rattle.bookings.specs.Books.{same_mark}
@@ -69,3 +70,16 @@ spot_point m (e ∷ es) r sorted within front back =
     not_false : (b : Bool) → not b ≡ false → b ≡ true
     not_false true e = refl
     not_false false e = cc
+
+-- where the mark does not come before the last entry, its spot is behind all
+pub spot_behind :
+    (m : PlainMark) (es : List Entry) (e : Entry) → ascends (map plain es) ≡ true → slice_get es (length es - 1) ≡ Some e
+    → before m (plain_mark e.mark) ≡ false → length es ≡ spot m (map plain es)
+spot_behind m es e sorted last not_before =
+    let many = length-map es plain in
+    let within = slice_get_within es (length es - 1) e last in
+    let at : get_or (map plain es) (length es - 1) (plain e) ≡ plain e =
+    get_or-map plain es (length es - 1) e (plain e) within ∙ ap plain (get_or_from_slice_get es (length es - 1) e e last) in
+    let high = spot_high m (map plain es) (length es - 1) (plain e) sorted (omega arith) (rw at not_before) in
+    let upto = spot_within m (map plain es) in
+    omega arith

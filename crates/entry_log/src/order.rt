@@ -14,12 +14,28 @@ pub(crate) fn is_before(a: &Mark, b: &Mark) -> bool
     a < b
 }
 
+// The place of a mark among entries that are sorted, by halving.
+fn halve_to(part: &[Entry], mark: &Mark) -> usize
+    requires { ascends (map plain part.now) ≡ true }
+    ensures { result ≡ spot (plain_mark mark.now) (map plain part.now) }
+{
+    part.partition_point(|entry| !is_before(mark, &entry.mark))
+}
+
 // The place of a mark among entries that are sorted: behind the last that it does not come before.
 pub(crate) fn spot_of(part: &[Entry], mark: &Mark) -> usize
     requires { ascends (map plain part.now) ≡ true }
     ensures { result ≡ spot (plain_mark mark.now) (map plain part.now) }
 {
-    part.partition_point(|entry| !is_before(mark, &entry.mark))
+    // Entries mostly come in order: then only the last is looked at.
+    let Some(last) = part.last() else {
+        return 0;
+    };
+    if is_before(mark, &last.mark) {
+        halve_to(part, mark)
+    } else {
+        part.len()
+    }
 }
 
 // The place of the entry with a mark.

@@ -8,12 +8,13 @@ use Rattle.replica.specs.Parcels as parcels
 use Rattle.network.specs.Cases.{Answer, unknown, Row, SixCases, SixCasesPlayed, Played, answer_of, asked, table}
 use Rattle.network.specs.Items as items
 use Rattle.network.specs.Net as net
+use Rattle.replica.specs.Model as replicas
 use Rattle.network.specs.Stages.{huts_of}
 use Rattle.network.proofs.Stands.{state_kept}
 
 -- each row's answer is what the model computes
 computed : map answer_of table ≡ map (λ r. r.answer) table
-unfolding books.row net.run net.take_nth items.items_taken parcels.parcel_of vectors.no_stamps vectors.covers vectors.vector_of
+unfolding books.row net.run net.take_nth items.items_taken parcels.parcel_of vectors.no_stamps vectors.covers vectors.vector_of replicas.leader
 computed = refl
 
 pub six_cases : SixCases

@@ -1,20 +1,20 @@
 -- Letter after letter a replica comes to know all that another knows, and to have as many committed.
-use Rattle.std.proofs.Common.{◌≡◌, ℕ, zero, suc, ◌<◌, ◌≤◌, ◌⊎◌, List, [], ◌∷◌, ◌++◌, length, drop, sym, refl, ap, ◌∙◌, subst, inl, inr, arith, length-drop}
+use Rattle.std.proofs.Common.{◌≡◌, ℕ, zero, suc, ◌<◌, ◌≤◌, ◌⊎◌, List, [], ◌∷◌, ◌++◌, length, drop, sym, refl, ap, ◌∙◌, subst, inl, inr, arith, length-append, length-drop}
 use mathlib.Core.List.{Memᴰ}
 use Rattle.bookings.specs.Plain.{PlainEntry}
-use Rattle.journal.specs.History.{history_of}
-use Rattle.letters.specs.Items.{PlainItem}
+use Rattle.journal.specs.History.{PlainRecord, history_of}
+use Rattle.letters.specs.Items.{PlainItem, settled}
 use Rattle.network.specs.Items.{items_taken}
 use Rattle.network.specs.Net.{Event, Net, Takes, Writes, after, huts}
 use Rattle.network.specs.Promise.{Caught, all_hand_on, exchange, lacking, letter_to}
-use Rattle.network.specs.Replicas.{committed_in, entries_of, vector_in}
+use Rattle.network.specs.Replicas.{committed_in, committed_of, entries_of, vector_in}
 use Rattle.network.proofs.Exchange.{exchange-left, exchange_others, exchange_reader}
 use Rattle.network.proofs.Letters.{in_item, letter_item, written_known}
 use Rattle.network.proofs.Marks.{◌⊆◌}
 use Rattle.network.proofs.Next.{next}
-use Rattle.network.proofs.Parts.{Older}
+use Rattle.network.proofs.Parts.{Older, committed_older}
 use Rattle.network.proofs.Safety.{All, after_holds, dur, hist, entries_made}
-use Rattle.network.proofs.Taken.{take_all_all, take_all_older}
+use Rattle.network.proofs.Taken.{take_all_all, take_all_older, take_all_short}
 use Rattle.network.proofs.Tests.{Apart, apart_turned}
 use Rattle.network.proofs.Valid.{log_older}
 use Rattle.network.proofs.Walk.{InLog, Only, Roomy, WalkTo, after_two, stay, then_on, walk-map}
@@ -25,9 +25,11 @@ pub record Fetched (es on : List Event) (i j : ℕ) : Type 0 where
   pub only : Only j es on
   pub kept : entries_of (hist es j) ⊆ entries_of (hist on j)
   pub from : (k : PlainEntry) → InLog k (hist on j) → InLog k (hist es j) ⊎ InLog k (hist es i)
+  pub grown : length (committed_of (hist es j)) ≤ length (committed_of (hist on j))
+  pub short : (most : ℕ) → length (committed_of (hist es j)) ≤ most → length (committed_of (hist es i)) ≤ most → length (committed_of (hist on j)) ≤ most
 
 fetched_none : (es : List Event) (i j : ℕ) → Fetched es es i j
-fetched_none es i j = record { only = λ x a. refl; kept = λ k d. d; from = λ k d. inl d }
+fetched_none es i j = record { only = λ x a. refl; kept = λ k d. d; from = λ k d. inl d; grown = omega arith; short = λ most a b. a }
 
 -- one after another
 fetched_on : (es on end : List Event) (i j : ℕ) → Apart i j → Fetched es on i j → Fetched on end i j → Fetched es end i j
@@ -36,6 +38,8 @@ fetched_on es on end i j apart h g =
       only = λ x a. g.only x a ∙ h.only x a;
       kept = λ k d. g.kept k (h.kept k d);
       from = λ k d. elim (g.from k d) [ inl a ↦ h.from k a | inr b ↦ inr (subst (InLog k) (h.only i apart) b) ];
+      grown = omega (arith, h.grown, g.grown);
+      short = λ most a b. g.short most (h.short most a b) (subst (λ (rs : List PlainRecord). length (committed_of rs) ≤ most) (sym (h.only i apart)) b);
     }
 
 -- what is so after one letter
@@ -43,10 +47,19 @@ fetched_one : (es on : List Event) (i j : ℕ) → hist on j ≡ history_of (ite
 fetched_one es on i j q only =
     record {
       only = only;
-      kept = log_older (entries_made on) (dur on) j (hist es j) (hist on j) (subst (Older (hist es j)) (sym q) (take_all_older (letter_to (after es) i j) ((after es).hut j))) ((All on).valid j);
+      kept = log_older (entries_made on) (dur on) j (hist es j) (hist on j) older ((All on).valid j);
+      grown = let p = committed_older (hist es j) (hist on j) older in omega (arith, ap length p.1, length-append (committed_of (hist es j)) p.0);
+      short = λ most a b.
+          subst (λ (rs : List PlainRecord). length (committed_of rs) ≤ most) (sym q)
+          (take_all_short most (letter_to (after es) i j) ((after es).hut j)
+          (λ p e m. let w = letter_item (length (committed_in ((after es).hut j))) (vector_in ((after es).hut j)) ((after es).hut i) (settled p e) m in
+          omega (arith, b, ap length w.2, w.3, length-append w.0 (e ∷ w.1))) a);
       from = λ k d. take_all_all (λ x. InLog x (hist es j) ⊎ InLog x (hist es i)) (letter_to (after es) i j) ((after es).hut j) said (λ x m. inl m) k (subst (InLog k) q d);
     }
   where
+    older : Older (hist es j) (hist on j)
+    older = subst (Older (hist es j)) (sym q) (take_all_older (letter_to (after es) i j) ((after es).hut j))
+
     said : (w : PlainItem) → Memᴰ w (letter_to (after es) i j) → InLog (in_item w) (hist es j) ⊎ InLog (in_item w) (hist es i)
     said w m = inr (written_known ((after es).hut i) w (letter_item (length (committed_in ((after es).hut j))) (vector_in ((after es).hut j)) ((after es).hut i) w m))
 

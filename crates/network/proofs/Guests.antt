@@ -10,7 +10,8 @@ use Rattle.replica.specs.Model.{entry_made, make_refusal}
 use Rattle.network.specs.Net.{Guest, Net, gives, held, huts, makes_for, served, shown, unless_refused, visit, with_guest, with_hut}
 use Rattle.network.specs.Replicas.{entries_in}
 use Rattle.network.proofs.Alone.{make-step, sync_step}
-use Rattle.network.proofs.Holds.{Becomes, Faithful, Holds, Lasts, becomes_trans, durables, histories, hut-again, huts_of, put_all, stays}
+use Rattle.network.proofs.Holds.{Becomes, Faithful, Holds, Lasts, becomes_trans, durables, histories, hut-again, huts_of, stays}
+use Rattle.network.proofs.Leading.{put_all}
 use Rattle.network.proofs.Knowing.{made-own}
 use Rattle.network.proofs.Lists.{by_append, by_cons, none_in}
 use Rattle.network.proofs.Marks.{◌∈◌, ◌⊆◌}
@@ -51,7 +52,7 @@ kept_more d g g' l slip to from new s =
 guest-step : {every : List PlainEntry} (n : Net) → Holds every n → (g : ℕ) (x : Guest) → Faithful (durables n) x → Becomes every n (with_guest g x n)
 guest-step n I g x s =
     record {
-      holds = record { own = I.own; valid = I.valid; led = I.led; said = I.said; guests = put_all (λ h y. Faithful (durables n) y) g x n.guest s I.guests };
+      holds = record { own = I.own; valid = I.valid; all = I.all; led = I.led; said = I.said; guests = put_all (λ h y. Faithful (durables n) y) g x n.guest s I.guests };
       grows = λ h. older_self (durables n h);
     }
 

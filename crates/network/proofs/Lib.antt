@@ -7,15 +7,20 @@ pub mod Gather
 pub mod Growth
 pub mod Guests
 pub mod Handed
+pub mod Handing
+mod Harmless
 pub mod Histories
 pub mod Holds
 pub mod Huts
 pub mod Knowing
 pub mod Lacking
+pub mod Leading
+pub mod Leaving
 mod Lettered
 pub mod Letters
 pub mod Lists
 pub mod Logs
+pub mod Mailed
 pub mod Marks
 pub mod Missing
 pub mod Next
@@ -32,6 +37,7 @@ pub mod Safety
 pub mod Same
 pub mod Sending
 pub mod Settle
+mod Slipping
 pub mod Sorting
 pub mod Spread
 pub mod Stages

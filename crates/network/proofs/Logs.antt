@@ -39,14 +39,19 @@ log_old e rs k m =
       | inr u ↦ Memᴰ.append_right (committed_of rs) (into_keeps e k (tentative_of rs) u)
     ]
 
--- nor does a committed record, where whatever is known with its mark is its entry
+-- a committed record takes away what has its mark, and nothing else
+pub log_other : (e : PlainEntry) (rs : List PlainRecord) (k : PlainEntry) → (k.mark ≡ e.mark → ⊥) → k ∈ entries_of rs → k ∈ entries_of (Committed e ∷ rs)
+log_other e rs k other m =
+    elim (Memᴰ.append_cases (committed_of rs) m) [
+      | inl u ↦ Memᴰ.append_left (without e.mark (tentative_of rs)) (Memᴰ.append_left (e ∷ []) u)
+      | inr u ↦ Memᴰ.append_right (committed_of rs ++ (e ∷ [])) (without_keeps e.mark k (tentative_of rs) u other)
+    ]
+
+-- nothing at all, where whatever is known with its mark is its entry
 pub log-committed :
     (e : PlainEntry) (rs : List PlainRecord) → ((k : PlainEntry) → k ∈ entries_of rs → k.mark ≡ e.mark → k ≡ e) → entries_of rs ⊆ entries_of (Committed e ∷ rs)
 log-committed e rs same k m =
-    elim (Memᴰ.append_cases (committed_of rs) m) [
-      | inl u ↦ Memᴰ.append_left (without e.mark (tentative_of rs)) (Memᴰ.append_left (e ∷ []) u)
-      | inr u ↦ elim (by_mark k.mark e.mark) [
-        | inl p ↦ rw (same k m p.0) (Memᴰ.append_left (without e.mark (tentative_of rs)) (stands e (committed_of rs) []))
-        | inr p ↦ Memᴰ.append_right (committed_of rs ++ (e ∷ [])) (without_keeps e.mark k (tentative_of rs) u p.0)
-      ]
+    elim (by_mark k.mark e.mark) [
+      | inl p ↦ rw (same k m p.0) (log_new (Committed e) rs)
+      | inr p ↦ log_other e rs k p.0 m
     ]

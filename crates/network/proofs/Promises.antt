@@ -4,25 +4,34 @@ use Rattle.network.specs.Promised.{Promised}
 use Rattle.network.proofs.Agree.{can_agree}
 use Rattle.network.proofs.Exchange.{letters_needed}
 use Rattle.network.proofs.Handed.{handed_on_stays}
-use Rattle.network.proofs.Safety.{behind_known, final, guests_keep, named_before, no_gaps, once_each, one_order, slips_say, vectors_say, zero_leads}
+use Rattle.network.proofs.Safety.{behind_known, cancelled-holds-nothing, final, guests_keep, known_stays, known_when_written, named_before, no_gaps, once_each, one_order, one_primary, primary_leads, slips_say, stood_says, vectors_say}
 use Rattle.network.proofs.Same.{same_log}
+use Rattle.network.proofs.Slipping.{behind_covered, covered_stays, served_stays}
 use Rattle.network.proofs.Whole.{letters_bring, taken-whole}
 
 pub promised : Always Promised
 promised es =
     record {
       one_order = one_order es;
-      zero_leads = zero_leads es;
+      one_primary = one_primary es;
+      primary_leads = primary_leads es;
       final = final es;
       handed_on_stays = handed_on_stays es;
       same_log = same_log es;
       once_each = once_each es;
       behind_known = behind_known es;
       named_before = named_before es;
+      cancelled-holds-nothing = cancelled-holds-nothing es;
       no_gaps = no_gaps es;
       vectors_say = vectors_say es;
+      known_stays = known_stays es;
+      known_when_written = known_when_written es;
+      stood_says = stood_says es;
       guests_keep = guests_keep es;
       slips_say = slips_say es;
+      covered_stays = covered_stays es;
+      served_stays = served_stays es;
+      behind_covered = behind_covered es;
       letters_bring = letters_bring es;
       taken-whole = taken-whole es;
       letters_needed = letters_needed es;

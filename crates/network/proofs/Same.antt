@@ -1,19 +1,19 @@
 -- Replicas that know the same have the same log and the same book.
-use Rattle.std.proofs.Common.{◌≡◌, ℕ, T, List, sym, refl, ap, ◌∙◌, subst}
+use Rattle.std.proofs.Common.{◌≡◌, ℕ, T, arith, inl, inr, List, sym, refl, ap, subst}
 use mathlib.Core.List.Memᴰ
 use Rattle.bookings.specs.Books.{book_of}
 use Rattle.bookings.specs.Plain.{PlainEntry, PlainMark}
 use Rattle.journal.specs.History.{log_of}
 use Rattle.entry_log.specs.Logs.{PlainLog, all_of, has}
-use Rattle.network.specs.Net.{Event}
+use Rattle.network.specs.Net.{Event, after}
 use Rattle.network.specs.Promise.{Always, SameLog}
 use Rattle.network.specs.Replicas.{committed_of, entries_of, tentative_of}
 use Rattle.network.proofs.Histories.{apart, sorted}
 use Rattle.network.proofs.Knowing.{known_here, made_once}
 use Rattle.network.proofs.Lists.{by_append}
 use Rattle.network.proofs.Marks.{◌∈◌, ◌⊆◌, has_one, one_has}
-use Rattle.network.proofs.Parts.{prefix-length}
-use Rattle.network.proofs.Safety.{All, dur, hist, entries_made, zero_leads}
+use Rattle.network.proofs.Parts.{prefix_full}
+use Rattle.network.proofs.Safety.{All, after_holds, dur, hist, entries_made, order_in}
 use Rattle.network.proofs.Sorting.{sorted_same}
 
 -- entries of one mark are one entry, in whichever logs
@@ -40,10 +40,10 @@ pub same_log : Always SameLog
 same_log es i j know len = (logs, ap (λ (l : PlainLog). book_of (all_of l)) logs)
   where
     first : committed_of (hist es i) ≡ committed_of (hist es j)
-    first =
-        let a = zero_leads es i in
-        let b = zero_leads es j in
-        prefix-length (committed_of (hist es i)) (committed_of (hist es j)) a.0 b.0 (sym a.1 ∙ b.1) len
+    first = elim (order_in (after es) (after_holds es) i j) [
+      | inl p ↦ sym (prefix_full (committed_of (hist es i)) (committed_of (hist es j)) p (omega (arith, len)))
+      | inr p ↦ prefix_full (committed_of (hist es j)) (committed_of (hist es i)) p (omega (arith, len))
+    ]
 
     rest : tentative_of (hist es i) ≡ tentative_of (hist es j)
     rest =

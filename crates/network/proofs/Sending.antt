@@ -1,8 +1,8 @@
 -- What a hut gives out once all of its records are durable lasts, so each item of a letter is true.
-use Rattle.std.proofs.Common.{◌≡◌, ℕ, ◌≤◌, List, ◌∷◌, ◌++◌, get_or, sym, refl, subst, inl, inr}
+use Rattle.std.proofs.Common.{◌≡◌, ℕ, ◌≤◌, List, ◌∷◌, ◌++◌, get_or, sym, refl, subst}
 use mathlib.Core.List.Memᴰ
 use mathlib.Core.List.{Memᴰ}
-use Rattle.std.proofs.lemmas.Bool.{cases_eq, eq-eqb}
+use Rattle.std.proofs.lemmas.Bool.{eq-eqb}
 use Rattle.bookings.specs.Plain.{PlainEntry}
 use Rattle.journal.specs.History.{PlainRecord, synced}
 use Rattle.entry_log.specs.Vectors.{vector_of}
@@ -20,7 +20,7 @@ use Rattle.network.proofs.Letters.{Written, letter_item, written_known}
 use Rattle.network.proofs.Lists.{by_last}
 use Rattle.network.proofs.Marks.{◌∈◌}
 use Rattle.network.proofs.Numbers.{vector_above}
-use Rattle.network.proofs.Parts.{Older, committed_older, older_self, prefix_trans}
+use Rattle.network.proofs.Parts.{Older, committed_older, older_self}
 use Rattle.network.proofs.Valid.{Made}
 
 -- a letter of true items is written
@@ -31,6 +31,7 @@ send-step n I l s =
           record {
             own = I.own;
             valid = I.valid;
+            all = I.all;
             led = I.led;
             said = λ x m. by_last n.sent m (I.said x) (λ q. subst (λ (y : Letter). (w : PlainItem) → Memᴰ w y → Said (durables n) w) (sym q) s);
             guests = I.guests;
@@ -55,12 +56,9 @@ module _ {every : List PlainEntry} (n : Net) (I : Holds every n) (i : ℕ) where
         made_in (durables n) (durables after_sync) (sync_step n I i).grows i (histories n i) all_durable e w.0 w.1,
       )
 
-  -- what it has as committed, hut 0 has as committed for good
-  pub committed_lasts : Prefix (committed_of (histories n i)) (committed_of (durables after_sync 0))
-  committed_lasts = elim (cases_eq i 0) [
-    | inl q ↦ committed_older (histories n i) (durables after_sync 0) (subst (λ (h : ℕ). Older (histories n i) (durables after_sync h)) q all_durable)
-    | inr q ↦ prefix_trans (committed_of (histories n i)) (committed_of (durables n 0)) (committed_of (durables after_sync 0)) (I.led i q) (committed_older (durables n 0) (durables after_sync 0) ((sync_step n I i).grows 0))
-  ]
+  -- what it has as committed, it has for good
+  pub committed_lasts : Prefix (committed_of (histories n i)) (committed_of (durables after_sync i))
+  committed_lasts = committed_older (histories n i) (durables after_sync i) all_durable
 
   -- the vector of what stands before an entry covers all that its maker knew
   vector_covers :
@@ -73,7 +71,7 @@ module _ {every : List PlainEntry} (n : Net) (I : Holds every n) (i : ℕ) where
 
   -- each item that it can write is true
   pub item_said : (w : PlainItem) → Written (n.hut i) w → Said (durables after_sync) w
-  item_said (settled p e) t = said_settled (durables after_sync) (committed_of (histories n i)) t.0 t.1 e p committed_lasts t.2 t.3
+  item_said (settled p e) t = said_settled (durables after_sync) i (committed_of (histories n i)) e p committed_lasts t
   item_said (waiting w) t =
       let l = known_lasts w.entry (written_known (n.hut i) (waiting w) t) in
       (l.0, l.2, λ k x. subst (λ (v : List ℕ). k.mark.stamp ≤ get_or v k.mark.hut 0) (sym t.3) (vector_covers w.entry t.0 t.1 l.0 t.2 l.1 k x))

@@ -124,7 +124,7 @@ means_cut bs l (p, ok, is, items) n short k =
     ap (λ x. items_taken (items_of (read_letter (take n x))) k) is
     ∙ ap (λ h. items_taken (items_of h) k) (cut-damaged p n ok (subst (λ (x : List ℕ). n < length x) is short))
 
-take_nth_at : (i : ℕ) (ls : List Letter) (k : Kept) → take_nth i ls k ≡ items_taken (get_or ls i []) k
+pub take_nth_at : (i : ℕ) (ls : List Letter) (k : Kept) → take_nth i ls k ≡ items_taken (get_or ls i []) k
 unfolding take_nth items_taken
 take_nth_at i [] k = refl
 take_nth_at zero (l ∷ ls) k = refl

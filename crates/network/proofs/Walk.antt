@@ -3,7 +3,7 @@ use Rattle.std.proofs.Common.{◌≡◌, ℕ, zero, suc, ◌+◌, ◌<◌, ◌�
 use Rattle.bookings.specs.Plain.{PlainEntry}
 use Rattle.journal.specs.History.{PlainRecord}
 use Rattle.replica.specs.Model.{capacity}
-use Rattle.network.specs.Net.{Commits, Crashes, Damaged, Event, Makes, MakesFor, Net, Syncs, Takes, Visits, Writes, after, huts, run, start, step}
+use Rattle.network.specs.Net.{Commits, Crashes, Damaged, Event, Makes, MakesFor, Net, Syncs, Takes, TakesBut, Visits, Writes, after, huts, run, start, step}
 use Rattle.network.specs.Promise.{all_hand_on, hands_on, makings}
 use Rattle.network.specs.Replicas.{entries_of}
 use Rattle.network.proofs.Marks.{◌∈◌}
@@ -24,7 +24,7 @@ walk-append (e ∷ a) b s t =
     let p = and_has (hands_on e) (all_hand_on a) s in
     and_makes (hands_on e) (all_hand_on (a ++ b)) p.0 (walk-append a b p.1 t)
 
-makings-append : (a b : List Event) → makings (a ++ b) ≡ makings a + makings b
+pub makings-append : (a b : List Event) → makings (a ++ b) ≡ makings a + makings b
 unfolding makings
 makings-append [] b = omega arith
 makings-append (Makes i kind ∷ a) b = omega (arith, makings-append a b)
@@ -32,6 +32,7 @@ makings-append (Commits i ∷ a) b = makings-append a b
 makings-append (Syncs i ∷ a) b = makings-append a b
 makings-append (Writes i count has ∷ a) b = makings-append a b
 makings-append (Takes j nth ∷ a) b = makings-append a b
+makings-append (TakesBut leaves j nth ∷ a) b = makings-append a b
 makings-append (Damaged j ∷ a) b = makings-append a b
 makings-append (Crashes i lost ∷ a) b = makings-append a b
 makings-append (Visits g i ∷ a) b = makings-append a b
@@ -45,6 +46,7 @@ makings_none (Commits i ∷ a) t = makings_none a t
 makings_none (Syncs i ∷ a) t = makings_none a t
 makings_none (Writes i count has ∷ a) t = makings_none a t
 makings_none (Takes j nth ∷ a) t = makings_none a t
+makings_none (TakesBut leaves j nth ∷ a) t = absurd t
 makings_none (Damaged j ∷ a) t = absurd t
 makings_none (Crashes i lost ∷ a) t = absurd t
 makings_none (Visits g i ∷ a) t = absurd t

@@ -72,24 +72,24 @@ module _ (H : Huts) where
       made : Made hist e w.0
       made = made_in dur hist part j (hist j) (older_self (hist j)) e w.0 w.1
 
-  -- a hut takes the entry that comes next in what hut 0 has committed
+  -- a hut takes the entry that comes next in what another has committed
   pub settled_fits :
-      (j : ℕ) (e : PlainEntry) (front back : List PlainEntry) → committed_of (dur 0) ≡ front ++ (e ∷ back) → committed_of (hist j) ≡ front
+      (j i : ℕ) (e : PlainEntry) (front back : List PlainEntry) → committed_of (dur i) ≡ front ++ (e ∷ back) → committed_of (hist j) ≡ front
       → Fits every dur j (Committed e) (hist j)
-  settled_fits j e front back q c =
+  settled_fits j i e front back q c =
       record {
-        fresh = rw c (once_split e front back (subst Once q (committed_once every dur 0 (dur 0) valid-0))).0;
+        fresh = rw c (once_split e front back (subst Once q (committed_once every dur i (dur i) valid-there))).0;
         same = same_mark_lem j e w.0 (made_grows dur hist part e w.0 durable);
         older = w.0;
         made = inl durable;
         known = rw c w.2;
       }
     where
-      valid-0 : Valid every dur 0 (dur 0)
-      valid-0 = valid_older every dur 0 (dur 0) (hist 0) (part 0) (valid 0)
+      valid-there : Valid every dur i (dur i)
+      valid-there = valid_older every dur i (dur i) (hist i) (part i) (valid i)
 
-      w : (older : List PlainRecord) × MadeBy dur 0 (dur 0) e older × (entries_of older ⊆ front)
-      w = committed_behind every dur 0 (dur 0) valid-0 e front back q
+      w : (older : List PlainRecord) × MadeBy dur i (dur i) e older × (entries_of older ⊆ front)
+      w = committed_behind every dur i (dur i) valid-there e front back q
 
       durable : Made dur e w.0
-      durable = made_in dur dur (λ h. older_self (dur h)) 0 (dur 0) (older_self (dur 0)) e w.0 w.1
+      durable = made_in dur dur (λ h. older_self (dur h)) i (dur i) (older_self (dur i)) e w.0 w.1

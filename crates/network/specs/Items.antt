@@ -1,5 +1,5 @@
 -- What a letter holds: items, which a replica takes one after another.
-use Rattle.std.specs.Prelude.{ℕ, List, [], ◌∷◌, ◌++◌, map, drop, Option}
+use Rattle.std.specs.Prelude.{ℕ, Bool, cond, List, [], ◌∷◌, ◌++◌, map, drop, Option}
 use Rattle.journal.specs.History.{PlainRecord, Tentative, Committed, Kept, state_in, takes_tentative, takes_committed}
 use Rattle.replica.specs.Model.{State, take_tentative_refusal, take_committed_refusal}
 use Rattle.letters.specs.Items.{PlainItem, settled, waiting, placed_from}
@@ -37,3 +37,12 @@ takes (waiting w) k = takes_tentative w.entry w.stood k
 unfoldable pub items_taken : Letter → Kept → Kept
 items_taken [] k = k
 items_taken (w ∷ ws) k = items_taken ws (takes w k)
+
+-- what a hut leaves of a letter for a reason of its own, by the item and what it knows when its turn comes
+abbrev pub Leaves : Type 0
+Leaves = PlainItem → State → Bool
+
+-- item after item, each left, or judged when its turn comes
+unfoldable pub items_but : Leaves → Letter → Kept → Kept
+items_but leaves [] k = k
+items_but leaves (w ∷ ws) k = items_but leaves ws (cond (leaves w (state_in k)) k (takes w k))

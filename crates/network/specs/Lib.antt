@@ -1,12 +1,16 @@
 pub mod Acts
 pub mod Cases
 pub mod Casts
+pub mod Days
+pub mod Harm
 pub mod Items
+pub mod Mail
 pub mod Net
 pub mod Promise
 pub mod Promised
 pub mod Reached
 pub mod Replicas
+pub mod Slips
 pub mod Stages
 pub mod Stands
 pub mod Taking

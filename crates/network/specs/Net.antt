@@ -4,7 +4,7 @@ use Rattle.bookings.specs.Plain.{PlainKind, PlainEntry}
 use Rattle.journal.specs.History.{Kept, empty, state_in, synced, crashed, makes, commits}
 use Rattle.entry_log.specs.Vectors.{vector_of, no_stamps, joined_with}
 use Rattle.replica.specs.Model.{entry_made, make_refusal, serves, slip_after}
-use Rattle.network.specs.Items.{Letter, words_for, items_taken}
+use Rattle.network.specs.Items.{Letter, Leaves, words_for, items_taken, items_but}
 use Rattle.network.specs.Replicas.{entries_in}
 
 -- a guest: its slip, what it had made, newest first, and what it was shown
@@ -26,7 +26,7 @@ abbrev pub huts : ℕ
 huts = 16
 
 -- `Commits i`: any hut may try, and the primary does; `Writes i count has`: hut i syncs and writes a letter for one who says to have that,
--- true or not; `Takes j nth`: hut j takes a letter of those ever written, from 0; `Damaged j`: bytes that are no letter come to hut j;
+-- true or not; `Takes j nth`: hut j takes a letter of those ever written, from 0; `TakesBut leaves j nth`: it leaves some of it; `Damaged j`: bytes that are no letter come to hut j;
 -- `Crashes i lost`: hut i loses its newest records that are not synced, so many of them; `Visits g i`: guest g is shown the log of hut i,
 -- if it is served there; `MakesFor g i kind`: it then has an entry made there.
 pub data Event : Type 0 where
@@ -35,6 +35,7 @@ pub data Event : Type 0 where
   Syncs : (i : ℕ) → Event
   Writes : (i count : ℕ) (has : List ℕ) → Event
   Takes : (j nth : ℕ) → Event
+  TakesBut : Leaves → (j nth : ℕ) → Event
   Damaged : (j : ℕ) → Event
   Crashes : (i lost : ℕ) → Event
   Visits : (g i : ℕ) → Event
@@ -57,6 +58,12 @@ unfoldable pub take_nth : ℕ → List Letter → Kept → Kept
 take_nth nth [] k = k
 take_nth zero (l ∷ ls) k = items_taken l k
 take_nth (suc nth) (l ∷ ls) k = take_nth nth ls k
+
+-- the same, with what the hut leaves
+unfoldable pub take_nth_but : Leaves → ℕ → List Letter → Kept → Kept
+take_nth_but leaves nth [] k = k
+take_nth_but leaves zero (l ∷ ls) k = items_but leaves l k
+take_nth_but leaves (suc nth) (l ∷ ls) k = take_nth_but leaves nth ls k
 
 -- all that a guest may ask for again
 abbrev pub held : Guest → List PlainEntry
@@ -95,6 +102,7 @@ step (Commits i) n = among i (with_hut i (commits (n.hut i)) n) n
 step (Syncs i) n = among i (with_hut i (synced (n.hut i)) n) n
 step (Writes i count has) n = among i (send (words_for count has (n.hut i)) (with_hut i (synced (n.hut i)) n)) n
 step (Takes j nth) n = among j (with_hut j (take_nth nth n.sent (n.hut j)) n) n
+step (TakesBut leaves j nth) n = among j (with_hut j (take_nth_but leaves nth n.sent (n.hut j)) n) n
 step (Damaged j) n = n
 step (Crashes i lost) n = among i (with_hut i (crashed lost (n.hut i)) n) n
 step (Visits g i) n = among i (visit g i n) n

@@ -2,15 +2,17 @@
 use Rattle.std.specs.Prelude.{◌≡◌, ℕ, zero, suc, ◌*◌, ◌<◌, ◌≤◌, Bool, true, false, ◌&&◌, ◌⊎◌, List, [], ◌∷◌, ◌++◌, length, drop, Some, None, slice_index_or}
 use mathlib.Core.List.{Memᴰ}
 use Rattle.bookings.specs.Books.{book_of, named_by}
-use Rattle.bookings.specs.Plain.{PlainMark, PlainEntry}
+use Rattle.bookings.specs.Laws.{CameTo}
+use Rattle.bookings.specs.Outcomes.{PlainGrant, holds}
+use Rattle.bookings.specs.Plain.{PlainMark, PlainEntry, cancel}
 use Rattle.journal.specs.History.{PlainRecord, Tentative, Kept, history_of, state_in}
 use Rattle.entry_log.specs.Logs.{has}
 use Rattle.entry_log.specs.Order.{Once}
 use Rattle.entry_log.specs.Vectors.{vector_of, covers}
-use Rattle.replica.specs.Model.{capacity}
+use Rattle.replica.specs.Model.{capacity, is_primary}
 use Rattle.letters.specs.Items.{PlainItem, settled}
 use Rattle.network.specs.Items.{Letter, words_for, all_for, refusal_of, takes}
-use Rattle.network.specs.Net.{Net, Event, Makes, Commits, Syncs, Writes, Takes, Damaged, Crashes, Visits, MakesFor, held, step, run, after, huts, served}
+use Rattle.network.specs.Net.{Net, Event, Makes, Commits, Syncs, Writes, Takes, TakesBut, Damaged, Crashes, Visits, MakesFor, held, step, run, after, huts, served}
 use Rattle.network.specs.Replicas.{committed_of, entries_of, committed_in, tentative_in, entries_in, vector_in}
 
 -- a law holds after every list of events
@@ -27,9 +29,13 @@ OneOrder es =
     (i j : ℕ)
     → Prefix (committed_in ((after es).hut i)) (committed_in ((after es).hut j)) ⊎ Prefix (committed_in ((after es).hut j)) (committed_in ((after es).hut i))
 
--- LAW: the primary has committed all that any replica has as committed, in the same order.
-abbrev pub ZeroLeads : List Event → Type 0
-ZeroLeads es = (j : ℕ) → Prefix (committed_in ((after es).hut j)) (committed_in ((after es).hut 0))
+-- LAW: no two replicas may commit.
+abbrev pub OnePrimary : List Event → Type 0
+OnePrimary es = (i j : ℕ) → is_primary (state_in ((after es).hut i)) ≡ true → is_primary (state_in ((after es).hut j)) ≡ true → i ≡ j
+
+-- LAW: the one that may has committed all that any replica has as committed, in the same order.
+abbrev pub PrimaryLeads : List Event → Type 0
+PrimaryLeads es = (i j : ℕ) → is_primary (state_in ((after es).hut i)) ≡ true → Prefix (committed_in ((after es).hut j)) (committed_in ((after es).hut i))
 
 -- LAW: what is committed and durable never changes but at its end, whatever comes.
 abbrev pub Final : List Event → Type 0
@@ -78,6 +84,12 @@ NamedBefore es =
     (i : ℕ) (front back : List PlainEntry) (e : PlainEntry) (m : PlainMark) → entries_in ((after es).hut i) ≡ front ++ e ∷ back
     → named_by e.kind ≡ Some m → has m front ≡ true
 
+-- LAW: in every log that has a cancellation, the booking that it names holds nothing.
+abbrev pub CancelledHoldsNothing : List Event → Type 0
+CancelledHoldsNothing es =
+    (i : ℕ) (c : PlainEntry) (m : PlainMark) (g : PlainGrant) → Memᴰ c (entries_in ((after es).hut i)) → c.kind ≡ cancel m
+    → CameTo (book_of (entries_in ((after es).hut i))) m (holds g) → ⊥
+
 -- LAW: who knows an entry knows all that its hut made before it.
 abbrev pub NoGaps : List Event → Type 0
 NoGaps es =
@@ -90,6 +102,25 @@ VectorsSay es =
     (i j : ℕ) (front : List PlainEntry) → Prefix front (entries_in ((after es).hut i))
     → (covers (vector_in ((after es).hut j)) (vector_of front) ≡ true → (k : PlainEntry) → Memᴰ k front → Memᴰ k (entries_in ((after es).hut j)))
     × (((k : PlainEntry) → Memᴰ k front → Memᴰ k (entries_in ((after es).hut j))) → covers (vector_in ((after es).hut j)) (vector_of front) ≡ true)
+
+-- LAW: what a replica had synced it knows from then on, whatever comes: crashes too.
+abbrev pub KnownStays : List Event → Type 0
+KnownStays es =
+    (later : List Event) (i : ℕ) (k : PlainEntry) → Memᴰ k (entries_of ((after es).hut i).durable) → Memᴰ k (entries_in ((run later (after es)).hut i))
+
+-- LAW: so it does with all that it knew when it wrote a letter.
+abbrev pub KnownWhenWritten : List Event → Type 0
+KnownWhenWritten es =
+    (later : List Event) (i count : ℕ) (has : List ℕ) → i < huts → (k : PlainEntry) → Memᴰ k (entries_in ((after es).hut i))
+    → Memᴰ k (entries_in ((run later (step (Writes i count has) (after es))).hut i))
+
+-- LAW: however late a letter comes, the vector of what stood before an entry when it was written says the same as those entries themselves, in every
+-- replica and in every state that comes later.
+abbrev pub StoodSays : List Event → Type 0
+StoodSays es =
+    (later : List Event) (i j : ℕ) (front : List PlainEntry) → Prefix front (entries_of ((after es).hut i).durable)
+    → (covers (vector_in ((run later (after es)).hut j)) (vector_of front) ≡ true → (k : PlainEntry) → Memᴰ k front → Memᴰ k (entries_in ((run later (after es)).hut j)))
+    × (((k : PlainEntry) → Memᴰ k front → Memᴰ k (entries_in ((run later (after es)).hut j))) → covers (vector_in ((run later (after es)).hut j)) (vector_of front) ≡ true)
 
 -- LAW: a guest that is served finds all that it was shown or had made before, wherever that was.
 abbrev pub GuestsKeep : List Event → Type 0
@@ -111,6 +142,7 @@ makings (Commits i ∷ es) = makings es
 makings (Syncs i ∷ es) = makings es
 makings (Writes i count has ∷ es) = makings es
 makings (Takes j nth ∷ es) = makings es
+makings (TakesBut leaves j nth ∷ es) = makings es
 makings (Damaged j ∷ es) = makings es
 makings (Crashes i lost ∷ es) = makings es
 makings (Visits g i ∷ es) = makings es
@@ -168,6 +200,7 @@ hands_on (Commits i) = true
 hands_on (Syncs i) = true
 hands_on (Writes i count has) = true
 hands_on (Takes j nth) = true
+hands_on (TakesBut leaves j nth) = false
 hands_on (Damaged j) = false
 hands_on (Crashes i lost) = false
 hands_on (Visits g i) = false

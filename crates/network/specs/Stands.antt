@@ -1,13 +1,14 @@
 -- A stage stands where some events have led the model of the network.
 use Rattle.std.specs.Prelude.{◌≡◌, ℕ, ◌<◌, ◌⊎◌, List, [], ◌∷◌, ◌++◌, map, length, get_or, MatchResult}
 use Rattle.bookings.specs.Plain.{plain_kind}
+use Rattle.journal.specs.History.{synced, makes, commits}
 use Rattle.letters.specs.Items.{waiting, placed_from}
 use Rattle.letters.specs.Laws.{LetterOk}
 use Rattle.letters.specs.Letters.{PlainLetter, encode_letter}
 use Rattle.network.specs.Items.{Letter}
 use Rattle.network.specs.Net.{Event, Makes, Commits, Syncs, Writes, Takes, Damaged, Crashes, after}
 use Rattle.std.specs.declared.result.Result.{Result}
-use Rattle.network.specs.Stages.{Follows, hut_at, huts_of, bytes_for, bytes_sent}
+use Rattle.network.specs.Stages.{Follows, Hut, Turns, hut_at, huts_of, bytes_for, bytes_sent}
 use Rattle.network.specs.declared.act.Act.{Act}
 use Rattle.network.specs.declared.act.Act.TheVariants as acts
 use Rattle.network.specs.declared.act.Done.{Done}
@@ -34,6 +35,21 @@ Comes h (acts.Take letter) es = es ≡ Takes h letter ∷ []
 Comes h (acts.Cut letter len) es = (es ≡ Damaged h ∷ []) ⊎ (es ≡ Takes h letter ∷ [])
 Comes h (acts.Crash left) es = (lost : ℕ) × (es ≡ Crashes h lost ∷ Syncs h ∷ [])
 Comes h (acts.Visit slip) es = es ≡ Syncs h ∷ []
+
+-- what an act that is done leaves at a place of what was kept there; of what comes by letters, and of crashes, the events say more
+abbrev pub Turned : List Hut → List Hut → ℕ → Act → Type 0
+Turned qs ps i (acts.Make kind) = Turns qs ps i (λ k. synced (makes (plain_kind kind) k))
+Turned qs ps i acts.Commit = Turns qs ps i commits ⊎ Turns qs ps i (λ k. synced (commits k))
+Turned qs ps i acts.Sync = Turns qs ps i synced
+Turned qs ps i (acts.Write has) = Turns qs ps i synced
+Turned qs ps i (acts.Take letter) = Unit
+Turned qs ps i (acts.Cut letter len) = Unit
+Turned qs ps i (acts.Crash left) = Unit
+Turned qs ps i (acts.Visit slip) = Turns qs ps i synced
+
+-- what an act that is not done leaves there: all as it was, or synced
+abbrev pub Rests : List Hut → List Hut → ℕ → Type 0
+Rests qs ps i = Turns qs ps i (λ k. k) ⊎ Turns qs ps i synced
 
 -- what an act has come to after the events so far: where it is done, just its own; where it is not, all is as it was, or synced
 abbrev pub Went : Stage → Stage → ℕ → Act → Result Done Unplayed → List Event → Type 0

@@ -7,7 +7,7 @@ use Rattle.network.specs.Acts.{Told, Denied, cut_of}
 use Rattle.network.specs.Casts.{Absent}
 use Rattle.network.specs.Net.{Event, Syncs, Writes, put}
 use Rattle.network.specs.Replicas.{committed_in, vector_in}
-use Rattle.network.specs.Stages.{Hut, bytes_sent, hut_at, huts_of}
+use Rattle.network.specs.Stages.{Follows, Hut, bytes_sent, hut_at, huts_of}
 use Rattle.network.specs.Stands.{Comes, Stands}
 use Rattle.network.specs.Taking.{take_bytes}
 use Rattle.network.specs.declared.act.Act.{Act}
@@ -71,3 +71,7 @@ CutsOff qs hut left cut = (p : ℕ) × PlacedAt qs hut p × ((q : Hut) → cut �
 -- what is kept once bytes have come to the replica at a place
 abbrev pub heard_at : List Hut → (place : ℕ) → List ℕ → (ℕ → Kept) → ℕ → Kept
 heard_at qs i bs kept = put (hut_at qs i) (take_bytes bs (kept (hut_at qs i))) kept
+
+-- the replica at a place keeps that, and each other something
+abbrev pub KeptAt : List Hut → (place : ℕ) → Kept → Type 0
+KeptAt qs i k = (kept : ℕ → Kept) × Follows qs kept × (kept (hut_at qs i) ≡ k)

@@ -49,12 +49,16 @@ names_unknown (Some m) s = not (has m (all_of s.log))
 abbrev pub make_refusal : PlainKind → State → Option ℕ
 make_refusal k s = cond (no_room s (next_mark s).stamp) (Some 8) (cond (names_unknown (named_by k) s) (Some 9) None)
 
--- the first tentative entry is committed, at hut 0 alone
+-- who commits, by what is committed
+unfoldable pub leader : List PlainEntry → ℕ
+leader es = 0
+
+-- the first tentative entry is committed, at the hut that commits alone
 abbrev pub commits : State → State
 commits s = record { hut = s.hut; log = commit_first s.log }
 
 abbrev pub is_primary : State → Bool
-is_primary s = s.hut == 0
+is_primary s = s.hut == leader s.log.committed
 
 -- another's tentative entry, with the vector of what stood before it
 abbrev pub take_tentative_refusal : PlainEntry → List ℕ → State → Option ℕ

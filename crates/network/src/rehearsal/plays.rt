@@ -7,7 +7,7 @@ ghost use Rattle.network.specs.Acts.{Told, Denied, writes, comes_of};
 ghost use Rattle.network.specs.Net.{Event};
 ghost use Rattle.network.specs.Reached.{Promises};
 ghost use Rattle.network.specs.Stages.{Follows, Hut, SameHuts, bytes_sent, hut_at, huts_of};
-ghost use Rattle.network.specs.Stands.{Sent, Stands, Went};
+ghost use Rattle.network.specs.Stands.{Rests, Sent, Stands, Turned, Went};
 ghost use Rattle.network.specs.Taking.{Reports};
 ghost use Rattle.network.specs.declared.act.Act.TheVariants as acts;
 ghost use Rattle.network.specs.declared.unplayed.Unplayed.TheVariants.{Memory, Refused, Failed};
@@ -27,6 +27,7 @@ impl Rehearsal {
             (Told (huts_of self.old.stage) at (vec_len self.old.stage.letters) act.now)
             (λ e. elim e [ Memory ↦ writes act.now ≡ true | Refused w ↦ Denied (huts_of self.old.stage) at (vec_len self.old.stage.letters) act.now w | Failed f ↦ ⊥ ]) }
         ensures steps { (es : List Event) → at < vec_len self.old.stage.keepers → Stands self.old.stage es → Went self.old.stage self.new.stage at act.now result es }
+        ensures turned { at < vec_len self.old.stage.keepers → MatchResult result (λ _. Turned (huts_of self.old.stage) (huts_of self.new.stage) at act.now) (λ _. Rests (huts_of self.old.stage) (huts_of self.new.stage) at) }
         ensures report { (kept : ℕ → Kept) → at < vec_len self.old.stage.keepers → Follows (huts_of self.old.stage) kept → MatchResult result
             (λ _. MatchOption (comes_of (bytes_sent self.old.stage) act.now) (Unit {0}) (λ bs. Reports self.new.stage.report (read_letter bs) (kept (hut_at (huts_of self.old.stage) at))))
             (λ _. Unit {0}) }

@@ -6,7 +6,7 @@ ghost use Rattle.letters.specs.Letters.{read_letter};
 ghost use Rattle.network.specs.Acts.{Told, Denied, writes, comes_of};
 ghost use Rattle.network.specs.Net.{Event};
 ghost use Rattle.network.specs.Stages.{Follows, Hut, SameHuts, Never, bytes_sent, hut_at, huts_of};
-ghost use Rattle.network.specs.Stands.{Sent, Stands, Went};
+ghost use Rattle.network.specs.Stands.{Rests, Sent, Stands, Turned, Went};
 ghost use Rattle.network.specs.Taking.{Reports};
 ghost use Rattle.network.specs.declared.act.Act.TheVariants as acts;
 ghost use Rattle.network.specs.declared.unplayed.Unplayed.TheVariants.{Memory, Refused, Failed};
@@ -29,6 +29,7 @@ impl Stage {
         ensures letters { Sent self.old self.new at act.now result }
         ensures many { vec_len self.new.keepers ≡ vec_len self.old.keepers }
         ensures clean { act.now ≡ acts.Sync → MatchResult result (λ _. (q : Hut) → is_synced (get_or (huts_of self.new) at q).journal.phase ≡ true) (λ _. Unit {0}) }
+        ensures turned { MatchResult result (λ _. Turned (huts_of self.old) (huts_of self.new) at act.now) (λ _. Rests (huts_of self.old) (huts_of self.new) at) }
         ensures steps { (es : List Event) → Stands self.old es → Went self.old self.new at act.now result es }
     {
         match act {

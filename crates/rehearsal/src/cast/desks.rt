@@ -1,5 +1,6 @@
 // The hut that is meant, as the lines of a hut know it.
 ghost use Rattle.network.specs.Stages.{Unsynced, huts_of, state_at};
+ghost use Rattle.rehearsal.specs.Carrying.{KeptAt};
 
 use super::Cast;
 use bookings::entry::{Kind, Mark};
@@ -14,6 +15,8 @@ use replica::summary::Summary;
 // No journal in memory fails. Of each act the other answers never come, as is proved.
 impl Desk for Cast {
     ghost state = { λ c. state_at (huts_of c.rehearsal.stage) c.current };
+
+    ghost keeps = { λ c k. KeptAt (huts_of c.rehearsal.stage) c.current k };
 
     ghost unsynced = { λ c. Unsynced (huts_of c.rehearsal.stage) c.current };
 

@@ -9,7 +9,7 @@ ghost use Rattle.network.specs.Casts.{Absent, CastOk, Opens};
 ghost use Rattle.network.specs.Net.{Event};
 ghost use Rattle.network.specs.Reached.{Promises};
 ghost use Rattle.network.specs.Stages.{Follows, SameHuts, Unsynced, Unwritten, bytes_sent, hut_at, huts_of};
-ghost use Rattle.network.specs.Stands.{Stands, Went};
+ghost use Rattle.network.specs.Stands.{Rests, Sent, Stands, Turned, Went};
 ghost use Rattle.network.specs.Taking.{Reports};
 ghost use Rattle.network.specs.declared.act.Act.TheVariants as acts;
 ghost use Rattle.network.specs.declared.unplayed.Unplayed.TheVariants.{Memory, Refused, Failed};
@@ -66,9 +66,11 @@ impl Cast {
             (Told (huts_of self.old.rehearsal.stage) self.old.current (vec_len self.old.rehearsal.stage.letters) act.now)
             (λ e. elim e [ Memory ↦ writes act.now ≡ true | Refused w ↦ Denied (huts_of self.old.rehearsal.stage) self.old.current (vec_len self.old.rehearsal.stage.letters) act.now w | Failed f ↦ ⊥ ]) }
         ensures steps { (es : List Event) → Stands self.old.rehearsal.stage es → Went self.old.rehearsal.stage self.new.rehearsal.stage self.old.current act.now result es }
+        ensures turned { MatchResult result (λ _. Turned (huts_of self.old.rehearsal.stage) (huts_of self.new.rehearsal.stage) self.old.current act.now) (λ _. Rests (huts_of self.old.rehearsal.stage) (huts_of self.new.rehearsal.stage) self.old.current) }
         ensures report { (kept : ℕ → Kept) → Follows (huts_of self.old.rehearsal.stage) kept → OnOk result
             (MatchOption (comes_of (bytes_sent self.old.rehearsal.stage) act.now) (Unit {0})
             (λ bs. Reports self.new.rehearsal.stage.report (read_letter bs) (kept (hut_at (huts_of self.old.rehearsal.stage) self.old.current)))) }
+        ensures letters { Sent self.old.rehearsal.stage self.new.rehearsal.stage self.old.current act.now result }
         ensures places { SameHuts (huts_of self.old.rehearsal.stage) (huts_of self.new.rehearsal.stage) }
         ensures promised { self.new.rehearsal.forged ≡ false → Promises self.new.rehearsal.stage }
         ensures forged { self.new.rehearsal.forged ≡ self.old.rehearsal.forged }

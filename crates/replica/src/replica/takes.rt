@@ -15,13 +15,20 @@ use bookings::refusal::Refusal;
 use entry_log::vector::Vector;
 
 impl Replica {
+    // Whether it is the one that commits.
+    fn leads(&self) -> bool
+        ensures { result ≡ is_primary (state_of self.now) }
+    {
+        self.head.hut == 0
+    }
+
     // Commits the first tentative entry, if there is one, and gives its mark; hut 0 alone commits, else 6.
     pub fn commit(&mut self) -> Result<Option<Mark>, Refusal>
         ensures { MatchResult result
             (λ m. (is_primary (state_of self.old) ≡ true) × (option_map plain_mark m ≡ first_mark (state_of self.old).log.tentative) × (state_of self.new ≡ commits (state_of self.old)))
             (λ e. (is_primary (state_of self.old) ≡ false) × (number_of e ≡ 6) × (state_of self.new ≡ state_of self.old)) }
     {
-        if self.head.hut != 0 {
+        if !self.leads() {
             return Err(Refusal::NotPrimary);
         }
         Ok(self.log.commit_first())

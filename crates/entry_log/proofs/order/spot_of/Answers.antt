@@ -1,14 +1,8 @@
-use Rattle.std.proofs.Common.{not, rules}
-use Rattle.std.proofs.lemmas.List.Sorted.{IsPartitionPoint-from_clause}
+use Rattle.std.proofs.Common.{sym, ◌∙◌}
 use Rattle.bookings.specs.Plain.{plain_mark}
-use Rattle.entry_log.specs.Order.{before}
-use Rattle.entry_log.proofs.Places.{partitioned, spot_point}
+use Rattle.entry_log.proofs.Places.{spot_behind}
 use Rattle.entry_log.proofs.order.spot_of.Goals as goal
 
-pub returns : goal.returns
-returns c =
-    let m = plain_mark c.args.mark.now in
-    let point =
-    IsPartitionPoint-from_clause (λ e. not (before m (plain_mark e.mark))) c.args.part.now c.partition_point.result c.partition_point.ensures.partitioned
-    (λ i j d. partitioned m c.args.part.now i j d c.requires) (λ a r f called. search rules) in
-    spot_point m c.args.part.now c.partition_point.result c.requires c.partition_point.ensures.bound point.0 point.1
+pub returns-else-is_before : goal.returns-else-is_before
+returns-else-is_before c =
+    spot_behind (plain_mark c.args.mark.now) c.args.part.now c.in-Some.last.now c.requires (sym c.in-Some.ensures.value) (sym c.is_before.ensures ∙ c.if-is_before.false)
