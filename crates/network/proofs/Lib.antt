@@ -1,3 +1,5 @@
+pub mod AbstractLaws
+pub mod AbstractLogs
 pub mod Agree
 pub mod Alone
 mod Cases

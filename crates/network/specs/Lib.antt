@@ -1,3 +1,4 @@
+pub mod Abstract
 pub mod Acts
 pub mod Cases
 pub mod Casts
@@ -9,6 +10,7 @@ pub mod Net
 pub mod Promise
 pub mod Promised
 pub mod Reached
+pub mod Refinement
 pub mod Replicas
 pub mod Slips
 pub mod Stages

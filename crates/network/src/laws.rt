@@ -1,4 +1,5 @@
 // The laws of the network: each function's contract is a law.
+ghost use Rattle.network.specs.Abstract.{AbstractCausal, AbstractFinal, AbstractGaps, AbstractPrefix, AbstractSame};
 ghost use Rattle.network.specs.Cases.{SixCases, SixCasesPlayed};
 ghost use Rattle.network.specs.Days.{DayOf, Happens, DaysStay, TimedAgree, TimedIsRun};
 ghost use Rattle.network.specs.Harm.{NoLetterHarms};
@@ -162,4 +163,29 @@ pub fn days_stay()
 // Handing on, committing and days that go on can alone bring all replicas to one log.
 pub fn timed_agree()
     ensures { (day_of : DayOf) (es : List Happens) → TimedAgree day_of es }
+{}
+
+// Of a page: of what two replicas have as committed one is the beginning of the other. It gives `one_order`.
+pub fn abstract_prefix()
+    ensures { AbstractPrefix }
+{}
+
+// Of a page: an entry stands behind all that its maker knew. It gives `behind_known`.
+pub fn abstract_causal()
+    ensures { AbstractCausal }
+{}
+
+// Of a page: replicas with one set and as many committed have one log. It gives `same_log`.
+pub fn abstract_same()
+    ensures { AbstractSame }
+{}
+
+// Of a page: who knows an entry knows all that its hut made before it. It gives `no_gaps`.
+pub fn abstract_gaps()
+    ensures { AbstractGaps }
+{}
+
+// Of a page: no step changes what is committed for good but at its end. It gives `final_stays`.
+pub fn abstract_final()
+    ensures { AbstractFinal }
 {}
