@@ -1,5 +1,7 @@
 pub mod AbstractLaws
+pub mod AbstractLists
 pub mod AbstractLogs
+pub mod AbstractShows
 pub mod Agree
 pub mod Alone
 mod Cases

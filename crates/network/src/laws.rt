@@ -6,6 +6,7 @@ ghost use Rattle.network.specs.Harm.{NoLetterHarms};
 ghost use Rattle.network.specs.Mail.{Mailed};
 ghost use Rattle.network.specs.Promise.{Always, OneOrder, OnePrimary, PrimaryLeads, Final, HandedOnStays, SameLog, OnceEach, BehindKnown, NamedBefore, CancelledHoldsNothing, NoGaps, VectorsSay, KnownStays, KnownWhenWritten, StoodSays, GuestsKeep, SlipsSay, LettersBring, TakenWhole, LettersNeeded, CanAgree};
 ghost use Rattle.network.specs.Promised.{Promised};
+ghost use Rattle.network.specs.Refinement.{Described};
 ghost use Rattle.network.specs.Slips.{CoveredStays, ServedStays, BehindCovered};
 ghost use Rattle.std.specs.Prelude.{List};
 
@@ -188,4 +189,9 @@ pub fn abstract_gaps()
 // Of a page: no step changes what is committed for good but at its end. It gives `final_stays`.
 pub fn abstract_final()
     ensures { AbstractFinal }
+{}
+
+// After every list of events a page shows the network.
+pub fn described()
+    ensures { Always Described }
 {}
