@@ -2,6 +2,7 @@ pub mod AbstractLaws
 pub mod AbstractLists
 pub mod AbstractLogs
 pub mod AbstractShows
+pub mod AbstractSteps
 pub mod Agree
 pub mod Alone
 mod Cases
@@ -20,6 +21,7 @@ pub mod Knowing
 pub mod Lacking
 pub mod Leading
 pub mod Leaving
+pub mod Learned
 mod Lettered
 pub mod Letters
 pub mod Lists
@@ -35,6 +37,7 @@ pub mod Parts
 pub mod Promises
 pub mod Putting
 pub mod Reached
+pub mod Refining
 pub mod Refusals
 pub mod Room
 pub mod Safety

@@ -36,7 +36,7 @@ listing (Visits g i) n every = every
 listing (MakesFor g i kind) n every = entry_made kind (state_in (n.hut i)) ∷ every
 
 -- it may list more
-more_listed : (e : PlainEntry) {every : List PlainEntry} (n : Net) → Holds every n → Holds (e ∷ every) n
+pub more_listed : (e : PlainEntry) {every : List PlainEntry} (n : Net) → Holds every n → Holds (e ∷ every) n
 more_listed e {every} n I =
     record {
       own = I.own;

@@ -64,7 +64,7 @@ take_all-step n i [] r s b = b
 take_all-step n i (w ∷ ws) r s b = take_all-step n i ws (takes w r) (λ x m. s x (Memᴰ.tail m)) (takes_on n i r b w (s w (Memᴰ.head refl)))
 
 -- the letter at a place is one of those written
-take_nth_all : (P : Kept → Type 0) (k : ℕ) (ls : List Letter) (r : Kept) → P r → ((l : Letter) → Memᴰ l ls → P (items_taken l r)) → P (take_nth k ls r)
+pub take_nth_all : (P : Kept → Type 0) (k : ℕ) (ls : List Letter) (r : Kept) → P r → ((l : Letter) → Memᴰ l ls → P (items_taken l r)) → P (take_nth k ls r)
 unfolding take_nth
 take_nth_all P k [] r p all = p
 take_nth_all P zero (l ∷ ls) r p all = all l (Memᴰ.head refl)
@@ -87,7 +87,7 @@ take_some-step {every} leaves n i (w ∷ ws) r s b =
     (λ _. take_some-step leaves n i ws r (λ x m. s x (Memᴰ.tail m)) b)
     (λ _. take_some-step leaves n i ws (takes w r) (λ x m. s x (Memᴰ.tail m)) (takes_on n i r b w (s w (Memᴰ.head refl))))
 
-take_nth_some :
+pub take_nth_some :
     (P : Kept → Type 0) (leaves : Leaves) (k : ℕ) (ls : List Letter) (r : Kept) → P r → ((l : Letter) → Memᴰ l ls → P (items_but leaves l r)) → P (take_nth_but leaves k ls r)
 unfolding take_nth_but
 take_nth_some P leaves k [] r p all = p

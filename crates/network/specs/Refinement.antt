@@ -31,3 +31,11 @@ pub record Shows (n : Net) (a : Page) : Type 0 where
 -- LAW: after every list of events a page shows the network, and what holds of pages holds of it.
 abbrev pub Described : List Event → Type 0
 Described es = (a : Page) × Shows (after es) a × Sound a
+
+-- LAW: whichever page shows the network, each event is some steps of it, to a page that shows the network then.
+abbrev pub EventsAreSteps : List Event → Type 0
+EventsAreSteps es = (e : Event) (a : Page) → Shows (after es) a → (b : Page) × Steps a b × Shows (step e (after es)) b
+
+-- LAW: every run of the network is a run of the page, and what holds of pages holds of it.
+abbrev pub Refines : List Event → Type 0
+Refines es = (a : Page) × Steps blank a × Shows (after es) a × Sound a

@@ -6,7 +6,7 @@ ghost use Rattle.network.specs.Harm.{NoLetterHarms};
 ghost use Rattle.network.specs.Mail.{Mailed};
 ghost use Rattle.network.specs.Promise.{Always, OneOrder, OnePrimary, PrimaryLeads, Final, HandedOnStays, SameLog, OnceEach, BehindKnown, NamedBefore, CancelledHoldsNothing, NoGaps, VectorsSay, KnownStays, KnownWhenWritten, StoodSays, GuestsKeep, SlipsSay, LettersBring, TakenWhole, LettersNeeded, CanAgree};
 ghost use Rattle.network.specs.Promised.{Promised};
-ghost use Rattle.network.specs.Refinement.{Described};
+ghost use Rattle.network.specs.Refinement.{Described, EventsAreSteps, Refines};
 ghost use Rattle.network.specs.Slips.{CoveredStays, ServedStays, BehindCovered};
 ghost use Rattle.std.specs.Prelude.{List};
 
@@ -194,4 +194,14 @@ pub fn abstract_final()
 // After every list of events a page shows the network.
 pub fn described()
     ensures { Always Described }
+{}
+
+// Each event is some steps of the page that shows the network.
+pub fn events_are_steps()
+    ensures { Always EventsAreSteps }
+{}
+
+// Every run of the network is a run of the page.
+pub fn refines()
+    ensures { Always Refines }
 {}

@@ -1,0 +1,265 @@
+-- One hut of a net changes: which step that is of the pages that show the net before and after.
+use Rattle.std.proofs.Common.{◌≡◌, ◌≢◌, ℕ, suc, max, ◌<◌, ◌≤◌, ◌⊎◌, List, [], ◌∷◌, ◌++◌, length, sym, refl, ap, ◌∙◌, subst, inl, inr, append_assoc, arith, length-append}
+use Rattle.std.proofs.lemmas.Bool.{cases_eq}
+use Rattle.std.proofs.lemmas.List.{append_cancel_left}
+use mathlib.Core.List.Memᴰ
+use Rattle.bookings.specs.Plain.{PlainEntry}
+use Rattle.journal.specs.History.{Committed, Kept, PlainRecord, Tentative, history_of}
+use Rattle.entry_log.specs.Logs.{PlainLog}
+use Rattle.network.specs.Abstract.{Alone, Committing, Forgetting, Learning, Making, Page, Part, SamePart, SameSet, Syncing, line, log}
+use Rattle.network.specs.Net.{Net}
+use Rattle.network.specs.Promise.{MadeAfter, Prefix}
+use Rattle.network.specs.Refinement.{Draws, Longest, Shows}
+use Rattle.network.specs.Replicas.{committed_of, entries_of, tentative_of}
+use Rattle.network.proofs.AbstractLists.{longest_more, longest_same, prefix_both, prefix_long}
+use Rattle.network.proofs.AbstractShows.{one_mark, sound}
+use Rattle.network.proofs.Growth.{Grows, made_grows}
+use Rattle.network.proofs.Holds.{Holds, durables, durably, histories, huts_of, so_far}
+use Rattle.network.proofs.Knowing.{known_here, made_once}
+use Rattle.network.proofs.Logs.{log-committed, log_new, log_old, log_only}
+use Rattle.network.proofs.Marks.{◌∈◌, ◌⊆◌}
+use Rattle.network.proofs.Lists.{by_cons, none_in}
+use Rattle.network.proofs.Parts.{Older, committed_older, older_one, older_self, prefix_either, prefix_full, prefix_self, prefix_trans}
+use Rattle.network.proofs.Valid.{log_older}
+
+same_set : (s t : List PlainEntry) → s ≡ t → SameSet s t
+same_set s t q = (λ k m. subst (λ (l : List PlainEntry). k ∈ l) q m, λ k m. subst (λ (l : List PlainEntry). k ∈ l) (sym q) m)
+
+pub set_trans : (s t u : List PlainEntry) → SameSet s t → SameSet t u → SameSet s u
+set_trans s t u p q = (λ k m. q.0 k (p.0 k m), λ k m. p.1 k (q.1 k m))
+
+pub set_turned : (s t : List PlainEntry) → SameSet s t → SameSet t s
+set_turned s t p = (p.1, p.0)
+
+-- parts that show the same records are the same
+part_same : (a b : Page) (p q : Part) (rs ss : List PlainRecord) → Draws a rs p → Draws b ss q → ss ≡ rs → SamePart q p
+part_same a b p q rs ss d e is = (
+  e.count ∙ ap (λ r. length (committed_of r)) is ∙ sym d.count,
+  set_trans q.set (entries_of ss) p.set e.set (set_trans (entries_of ss) (entries_of rs) p.set (same_set (entries_of ss) (entries_of rs) (ap entries_of is)) (set_turned p.set (entries_of rs) d.set)),
+)
+
+-- both nets are shown, and only hut i differs
+module _ {every every' : List PlainEntry} (n n' : Net) (I : Holds every n) (I' : Holds every' n') (a b : Page) (S : Shows n a) (T : Shows n' b) (i : ℕ)
+  (others : (j : ℕ) → j ≢ i → n'.hut j ≡ n.hut j) where
+  pub at_each : (P : Kept → Kept → Type 0) → ((k : Kept) → P k k) → P (n.hut i) (n'.hut i) → (h : ℕ) → P (n.hut h) (n'.hut h)
+  at_each P self here h = elim (cases_eq h i) [
+    | inl q ↦ subst (λ x. P (n.hut x) (n'.hut x)) (sym q) here
+    | inr q ↦ subst (P (n.hut h)) (sym (others h q)) (self (n.hut h))
+  ]
+
+  -- an entry that is known before and after was made after the same records
+  made_same :
+      Grows (histories n) (histories n') ⊎ Grows (histories n') (histories n) → (e : PlainEntry) (older older' : List PlainRecord) → MadeAfter n e older
+      → MadeAfter n' e older' → older ≡ older'
+  made_same (inl g) e older older' m m' = (made_once (huts_of n' I') e e older older' (made_grows (histories n) (histories n') g e older m) m' refl).1
+  made_same (inr g) e older older' m m' = (made_once (huts_of n I) e e older older' m (made_grows (histories n') (histories n) g e older' m') refl).1
+
+  alone : Grows (histories n) (histories n') ⊎ Grows (histories n') (histories n) → Alone i a b
+  alone g =
+      record {
+        now = λ j q. part_same a b (a.now j) (b.now j) (histories n j) (histories n' j) (S.now j) (T.now j) (ap history_of (others j q));
+        synced = λ j q. part_same a b (a.synced j) (b.synced j) (durables n j) (durables n' j) (S.synced j) (T.synced j) (ap (λ (k : Kept). k.durable) (others j q));
+        knew = λ h j e m m'.
+            let w = known_here (huts_of n I) h e ((S.now h).set.0 e m) in
+            let w' = known_here (huts_of n' I') j e ((T.now j).set.0 e m') in
+            let knew' : SameSet (b.knew e.mark) (entries_of w.0) = subst (λ rs. SameSet (b.knew e.mark) (entries_of rs)) (sym (made_same g e w.0 w'.0 w.1 w'.1)) (T.knew e w'.0 w'.1) in
+            set_trans (b.knew e.mark) (entries_of w.0) (a.knew e.mark) knew' (set_turned (a.knew e.mark) (entries_of w.0) (S.knew e w.0 w.1));
+      }
+
+  grows : Older (histories n i) (histories n' i) → Grows (histories n) (histories n')
+  grows o = at_each (λ k r. Older (history_of k) (history_of r)) (λ k. older_self (history_of k)) o
+
+  grew : Older (histories n' i) (histories n i) → Grows (histories n') (histories n)
+  grew o = at_each (λ k r. Older (history_of r) (history_of k)) (λ k. older_self (history_of k)) o
+
+  -- nothing durable changes
+  module _ (kept : durables n' i ≡ durables n i) where
+    synced_same : SamePart (b.synced i) (a.synced i)
+    synced_same = part_same a b (a.synced i) (b.synced i) (durables n i) (durables n' i) (S.synced i) (T.synced i) kept
+
+    ink_same : b.ink ≡ a.ink
+    ink_same =
+        longest_same (durably n') (durably n) (at_each (λ k r. committed_of r.durable ≡ committed_of k.durable) (λ k. refl) (ap committed_of kept)) b.ink a.ink T.ink S.ink
+
+    -- then the draft is the same where the whole line is
+    draft_same : line b ≡ line a → b.draft ≡ a.draft
+    draft_same q = append_cancel_left a.ink b.draft a.draft (ap (λ l. l ++ b.draft) (sym ink_same) ∙ q)
+
+    line_same : so_far n' i ≡ so_far n i → line b ≡ line a
+    line_same q =
+        longest_same (so_far n') (so_far n) (at_each (λ k r. committed_of (history_of r) ≡ committed_of (history_of k)) (λ k. refl) q) (line b) (line a) T.line S.line
+
+    -- the hut makes an entry
+    pub makes :
+        (e : PlainEntry) → e.mark.hut ≡ i → histories n' i ≡ Tentative e ∷ histories n i
+        → ((k : PlainEntry) → k ∈ entries_of (histories n i) → k.mark.stamp < e.mark.stamp) → Making i e a b
+    makes e mine is above =
+        record {
+          alone = alone (inl (grows (Tentative e ∷ [], is)));
+          mine = mine;
+          above = λ k m. above k ((S.now i).set.0 k m);
+          knew = set_trans (b.knew e.mark) (entries_of (histories n i)) (a.now i).set (T.knew e (histories n i) ([], ap (histories n') mine ∙ is)) (set_turned (a.now i).set (entries_of (histories n i)) (S.now i).set);
+          count = (T.now i).count ∙ ap (λ r. length (committed_of r)) is ∙ sym (S.now i).count;
+          set = (
+            λ k m. elim (log_only (Tentative e) (histories n i) k (subst (λ r. k ∈ entries_of r) is ((T.now i).set.0 k m))) [
+              | inl q ↦ Memᴰ.head q
+              | inr u ↦ Memᴰ.tail ((S.now i).set.1 k u)
+            ],
+            λ k m. (T.now i).set.1 k (subst (λ r. k ∈ entries_of r) (sym is)
+            (by_cons m (λ q. Memᴰ.cast q (log_new (Tentative e) (histories n i))) (λ u. log_old e (histories n i) k ((S.now i).set.0 k u)))),
+          );
+          synced = synced_same;
+          ink = ink_same;
+          draft = draft_same (line_same (ap committed_of is));
+        }
+
+    -- the hut that has all of the list commits its first tentative entry
+    module _ (e : PlainEntry) (es : List PlainEntry) (is : histories n' i ≡ Committed e ∷ histories n i) (first : tentative_of (histories n i) ≡ e ∷ es)
+      (most : (j : ℕ) → Prefix (so_far n j) (so_far n i)) where
+      has_line : line a ≡ so_far n i
+      has_line = longest_same (so_far n) (so_far n) (λ j. refl) (line a) (so_far n i) S.line (record { each = most; one = inr (i, refl) })
+
+      line_more : line b ≡ so_far n i ++ e ∷ []
+      line_more =
+          longest_same (so_far n') (so_far n') (λ j. refl) (line b) (so_far n i ++ e ∷ []) T.line
+          (record {
+            each = λ j.
+                at_each (λ k r. Prefix (committed_of (history_of k)) (so_far n i) → Prefix (committed_of (history_of r)) (so_far n i ++ e ∷ []))
+                (λ k p. prefix_trans (committed_of (history_of k)) (so_far n i) (so_far n i ++ e ∷ []) p (e ∷ [], refl))
+                (λ _. subst (λ r. Prefix (committed_of r) (so_far n i ++ e ∷ [])) (sym is) (prefix_self (so_far n i ++ e ∷ []))) j (most j);
+            one = inr (i, ap committed_of is);
+          })
+
+      known : e ∈ entries_of (histories n i)
+      known = Memᴰ.append_right (so_far n i) (subst (λ l. e ∈ l) (sym first) (Memᴰ.head refl))
+
+      pub commits : Committing i e a b
+      commits =
+          record {
+            alone = alone (inl (grows (Committed e ∷ [], is)));
+            last = (S.now i).count ∙ ap length (sym has_line);
+            first = (es, sym (ap (λ (l : PlainLog). l.tentative) (S.now i).log) ∙ first);
+            count = omega (arith, (T.now i).count, ap (λ r. length (committed_of r)) is, (S.now i).count, length-append (so_far n i) (e ∷ []));
+            set = (
+              λ k m. (S.now i).set.1 k (elim (log_only (Committed e) (histories n i) k (subst (λ r. k ∈ entries_of r) is ((T.now i).set.0 k m))) [
+                | inl q ↦ Memᴰ.cast q known
+                | inr u ↦ u
+              ]),
+              λ k m. (T.now i).set.1 k (subst (λ r. k ∈ entries_of r) (sym is)
+              (log-committed e (histories n i) (λ x u q. one_mark (huts_of n I) i i x e u known q) k ((S.now i).set.0 k m))),
+            );
+            synced = synced_same;
+            ink = ink_same;
+            draft =
+                append_cancel_left a.ink b.draft (a.draft ++ e ∷ [])
+                (ap (λ l. l ++ b.draft) (sym ink_same) ∙ line_more ∙ ap (λ l. l ++ e ∷ []) (sym has_line) ∙ append_assoc a.ink a.draft (e ∷ []));
+          }
+
+    -- the hut learns what others have for good
+    module _ (more : Older (histories n i) (histories n' i))
+      (from : (k : PlainEntry) → k ∈ entries_of (histories n' i) → (k ∈ entries_of (histories n i)) ⊎ ((h : ℕ) × (k ∈ entries_of (durables n h))))
+      (far : (length (so_far n' i) ≡ length (so_far n i)) ⊎ ((h : ℕ) × (length (so_far n' i) ≤ length (durably n h)))) where
+      longer : Prefix (so_far n i) (so_far n' i)
+      longer = committed_older (histories n i) (histories n' i) more
+
+      not_beyond : length (so_far n i) ≤ length (line a) → length (so_far n' i) ≤ length (line a)
+      not_beyond p = elim far [
+        | inl q ↦ omega (arith, q, p)
+        | inr w ↦
+            let d = prefix_long (durably n w.0) (so_far n w.0) (committed_older (durables n w.0) (histories n w.0) ((n.hut w.0).pending, refl)) in
+            omega (arith, w.1, d, prefix_long (so_far n w.0) (line a) (S.line.each w.0))
+      ]
+
+      line_stays : line b ≡ line a
+      line_stays =
+          prefix_full (line a) (line b)
+          (longest_more (so_far n) (so_far n') (at_each (λ k r. Prefix (committed_of (history_of k)) (committed_of (history_of r))) (λ k. prefix_self (committed_of (history_of k))) longer) (line a) (line b) S.line T.line)
+          (elim T.line.one [
+            | inl q ↦ omega (arith, ap length q)
+            | inr w ↦
+                let l = at_each (λ k r. length (committed_of (history_of k)) ≤ length (line a) → length (committed_of (history_of r)) ≤ length (line a)) (λ k p. p) not_beyond w.0
+                (prefix_long (so_far n w.0) (line a) (S.line.each w.0)) in
+                omega (arith, l, ap length w.1)
+          ])
+
+      pub learns : Learning i a b
+      learns =
+          record {
+            alone = alone (inl (grows more));
+            more = λ k m. (T.now i).set.1 k (log_older every' (durables n') i (histories n i) (histories n' i) more (I'.valid i) k ((S.now i).set.0 k m));
+            from = λ k m. elim (from k ((T.now i).set.0 k m)) [ inl u ↦ inl ((S.now i).set.1 k u) | inr w ↦ inr (w.0, (S.synced w.0).set.1 k w.1) ];
+            closed = (sound n' I' b T).closed i;
+            longer = omega (arith, (S.now i).count, (T.now i).count, prefix_long (so_far n i) (so_far n' i) longer);
+            far = elim far [
+              | inl q ↦ inl ((T.now i).count ∙ q ∙ sym (S.now i).count)
+              | inr w ↦ inr (w.0, omega (arith, (T.now i).count, (S.synced w.0).count, w.1))
+            ];
+            synced = synced_same;
+            ink = ink_same;
+            draft = draft_same line_stays;
+          }
+
+    -- the hut forgets what it had not synced, or some of it
+    module _ (less : Older (histories n' i) (histories n i)) where
+      at_least : Older (durables n i) (histories n' i)
+      at_least = subst (λ r. Older r (histories n' i)) kept ((n'.hut i).pending, refl)
+
+      line_less : Prefix (line b) (line a)
+      line_less =
+          longest_more (so_far n') (so_far n)
+          (at_each (λ k r. Prefix (committed_of (history_of r)) (committed_of (history_of k))) (λ k. prefix_self (committed_of (history_of k))) (committed_older (histories n' i) (histories n i) less))
+          (line b) (line a) T.line S.line
+
+      pub forgets : Forgetting i a b
+      forgets =
+          record {
+            alone = alone (inr (grew less));
+            kept = λ k m. (T.now i).set.1 k (log_older every' (durables n') i (durables n i) (histories n' i) at_least (I'.valid i) k ((S.synced i).set.0 k m));
+            less = λ k m. (S.now i).set.1 k (log_older every (durables n) i (histories n' i) (histories n i) less (I.valid i) k ((T.now i).set.0 k m));
+            closed = (sound n' I' b T).closed i;
+            at_least = omega (arith, (S.synced i).count, (T.now i).count, prefix_long (durably n i) (so_far n' i) (committed_older (durables n i) (histories n' i) at_least));
+            at_most = omega (arith, (S.now i).count, (T.now i).count, prefix_long (so_far n' i) (so_far n i) (committed_older (histories n' i) (histories n i) less));
+            synced = synced_same;
+            ink = ink_same;
+            draft = (
+              line_less.0,
+              append_cancel_left a.ink a.draft (b.draft ++ line_less.0)
+              (line_less.1 ∙ append_assoc b.ink b.draft line_less.0 ∙ ap (λ l. l ++ (b.draft ++ line_less.0)) ink_same),
+            );
+            seen = λ j. omega (arith, (T.now j).count, prefix_long (so_far n' j) (line b) (T.line.each j));
+          }
+
+  -- the hut has for good what it has now
+  module _ (same : histories n' i ≡ histories n i) (all : durables n' i ≡ histories n i) where
+    more_durable : Prefix (durably n i) (durably n' i)
+    more_durable = subst (λ r. Prefix (durably n i) (committed_of r)) (sym all) (committed_older (durables n i) (histories n i) ((n.hut i).pending, refl))
+
+    here_durable : length (durably n' i) ≡ (a.now i).count
+    here_durable = ap (λ r. length (committed_of r)) all ∙ sym (S.now i).count
+
+    ink_more : Prefix a.ink b.ink
+    ink_more =
+        longest_more (durably n) (durably n') (at_each (λ k r. Prefix (committed_of k.durable) (committed_of r.durable)) (λ k. prefix_self (committed_of k.durable)) more_durable)
+        a.ink b.ink S.ink T.ink
+
+    no_further : length b.ink ≤ max (length a.ink) (a.now i).count
+    no_further = elim T.ink.one [
+      | inl q ↦ omega (arith, ap length q)
+      | inr w ↦
+          let m = max (length a.ink) (a.now i).count in
+          let l = at_each (λ k r. length (committed_of k.durable) ≤ m → length (committed_of r.durable) ≤ m) (λ k p. p) (λ _. omega (arith, here_durable)) w.0
+          (omega (arith, prefix_long (durably n w.0) a.ink (S.ink.each w.0))) in
+          omega (arith, l, ap length w.1)
+    ]
+
+    pub syncs : Syncing i a b
+    syncs =
+        record {
+          alone = alone (inl (grows ([], same)));
+          now = part_same a b (a.now i) (b.now i) (histories n i) (histories n' i) (S.now i) (T.now i) same;
+          synced = part_same a b (a.now i) (b.synced i) (histories n i) (durables n' i) (S.now i) (T.synced i) all;
+          ink = ink_more;
+          as_far = omega (arith, no_further, prefix_long a.ink b.ink ink_more, prefix_long (durably n' i) b.ink (T.ink.each i), here_durable);
+          whole =
+              longest_same (so_far n') (so_far n) (at_each (λ k r. committed_of (history_of r) ≡ committed_of (history_of k)) (λ k. refl) (ap committed_of same)) (line b) (line a) T.line S.line;
+        }
