@@ -3,7 +3,7 @@ use Rattle.std.proofs.Common.{◌≡◌, ℕ, ◌≤◌, ◌⊎◌, List, [], �
 use Rattle.bookings.specs.Plain.{PlainEntry}
 use Rattle.network.specs.Promise.{Prefix}
 use Rattle.network.specs.Refinement.{Longest}
-use Rattle.network.proofs.Leading.{ByItself, Leader, Leads, Within}
+use Rattle.network.proofs.Leading.{ByItself, Leader, Leads}
 use Rattle.network.proofs.Parts.{prefix_full, prefix_self, prefix_trans}
 
 pub prefix_long : (a b : List PlainEntry) → Prefix a b → length a ≤ length b

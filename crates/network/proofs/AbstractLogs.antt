@@ -2,7 +2,7 @@
 use Rattle.std.proofs.Common.{◌≡◌, ◌||◌, List, [], ◌∷◌, ◌++◌, length, take, drop, sym, refl, ap, ◌∙◌, subst, inl, inr, take-append-drop}
 use Rattle.std.proofs.Math.Seq.{take-append_seam}
 use mathlib.Core.List.Memᴰ
-use Rattle.bookings.specs.Plain.{PlainEntry, PlainMark}
+use Rattle.bookings.specs.Plain.{PlainEntry}
 use Rattle.entry_log.specs.Logs.{PlainLog, has, into}
 use Rattle.network.specs.Abstract.{AbstractPrefix, Part, SameSet, log, rest}
 use Rattle.network.specs.Promise.{Prefix}
@@ -64,7 +64,7 @@ abstract_prefix l p q = prefix_either (take p.count l) (take q.count l) l (take_
 
 -- a log with committed entries c that begin a list, and sorted tentative ones, is the log of a part with as many and the same entries
 module _ (c t l : List PlainEntry) (p : Part) (begins : Prefix c l) (many : p.count ≡ length c) (order : Sorted t)
-  (apart : (k e : PlainEntry) → k ∈ c → e ∈ t → k.mark ≡ e.mark → ⊥) (one : (k : PlainEntry) → k ∈ (c ++ t) → Only k (c ++ t)) (same : SameSet p.set (c ++ t)) where
+    (apart : (k e : PlainEntry) → k ∈ c → e ∈ t → k.mark ≡ e.mark → ⊥) (one : (k : PlainEntry) → k ∈ (c ++ t) → Only k (c ++ t)) (same : SameSet p.set (c ++ t)) where
   pub first_many : take p.count l ≡ c
   first_many = ap (λ n. take n l) many ∙ ap (take (length c)) begins.1 ∙ take-append_seam c begins.0
 

@@ -1,27 +1,24 @@
--- A page shows the network, and what holds of pages holds of it.
-use Rattle.std.proofs.Common.{◌≡◌, ℕ, ◌<◌, cond, ◌⊎◌, List, [], ◌∷◌, ◌++◌, length, sym, refl, ap, ◌∙◌, subst, inl, inr, append_assoc, arith}
+-- Of every net that events lead to there is a page that shows it.
+use Rattle.std.proofs.Common.{◌≡◌, ℕ, cond, List, [], ◌∷◌, ◌++◌, length, sym, refl, ap, ◌∙◌, subst, inl, inr}
 use mathlib.Core.List.Memᴰ
 use Rattle.bookings.specs.Books.{same_mark}
 use Rattle.bookings.specs.Plain.{PlainEntry, PlainMark}
-use Rattle.journal.specs.History.{Committed, PlainRecord, Tentative, log_of}
+use Rattle.journal.specs.History.{Committed, PlainRecord, Tentative}
 use Rattle.entry_log.proofs.Putting.{same_self}
 use Rattle.entry_log.specs.Logs.{PlainLog}
 use Rattle.replica.specs.Model.{leader}
-use Rattle.network.specs.Abstract.{Closed, Page, Part, SameSet, Sound, line, log}
-use Rattle.network.specs.Net.{Event, Net, after}
-use Rattle.network.specs.Promise.{Always, MadeAfter, Prefix}
-use Rattle.network.specs.Refinement.{Described, Draws, Longest, Shows}
+use Rattle.network.specs.Abstract.{Closed, Page, Part, SameSet, line}
+use Rattle.network.specs.Net.{Net}
+use Rattle.network.specs.Refinement.{Draws, Longest, Shows}
 use Rattle.network.specs.Replicas.{committed_of, entries_of, tentative_of}
 use Rattle.network.proofs.AbstractLists.{longest_durable, longest_so_far}
-use Rattle.network.proofs.AbstractLogs.{Only, log_is}
+use Rattle.network.proofs.AbstractLogs.{log_is}
 use Rattle.network.proofs.Histories.{apart, sorted}
 use Rattle.network.proofs.Holds.{Holds, durables, durably, histories, huts_of, so_far}
-use Rattle.network.proofs.Knowing.{Huts, behind, known_here, made-own, made_once, made_order}
-use Rattle.network.proofs.Lists.{front_not_nil, stands}
+use Rattle.network.proofs.Knowing.{Huts, known_here, made_once}
 use Rattle.network.proofs.Logs.{log_new}
 use Rattle.network.proofs.Marks.{◌∈◌, ◌⊆◌, by_mark}
 use Rattle.network.proofs.Parts.{Older, committed_older, older_self, prefix_trans}
-use Rattle.network.proofs.Safety.{after_holds, entries_made}
 use Rattle.network.proofs.Valid.{Valid, log_older, new_fresh, valid_older}
 
 -- what the maker of the entry with a mark knew, by its records
@@ -97,47 +94,11 @@ module _ {every : List PlainEntry} (n : Net) (I : Holds every n) where
       same : {s t : List PlainEntry} → t ≡ s → SameSet s t
       same q = (λ k m. subst (λ l. k ∈ l) (sym q) m, λ k m. subst (λ l. k ∈ l) q m)
 
-  -- what holds of pages holds of every page that shows the net
-  module _ (a : Page) (S : Shows n a) where
-    H : Huts
-    H = huts_of n I
-
-    pub sound : Sound a
-    unfolding H
-    sound =
-        record {
-          closed = λ i. (
-            λ e m k u. let w = known_here H i e (known i e m) in (S.now i).set.1 k (w.2 k ((S.knew e w.0 w.1).0 k u)),
-            λ k m. (S.now i).set.1 k (Memᴰ.append_left (tentative_of (histories n i)) (subst (λ l. k ∈ l) (sym (ap (λ (l : PlainLog). l.committed) (S.now i).log)) m)),
-          );
-          behind = λ front back e q k m. elim S.line.one [
-            | inl z ↦ absurd (front_not_nil e front back (sym z ∙ q))
-            | inr w ↦ first front back e (w.0) (w.1 ∙ q) k m
-          ];
-          lower = λ i e k m u. let w = known_here H i e (known i e m) in (made-own H e w.0 w.1).above k ((S.knew e w.0 w.1).0 k u);
-          once = λ i j e f m o q. one_mark H i j e f (known i e m) (known j f o) q;
-          own = λ i j e f m o q l. before i j e f (known_here H i e (known i e m)) (known_here H j f (known j f o)) q l;
-        }
-      where
-        known : (i : ℕ) (e : PlainEntry) → e ∈ (a.now i).set → e ∈ entries_of (histories n i)
-        known i e m = (S.now i).set.0 e m
-
-        first : (front back : List PlainEntry) (e : PlainEntry) (i : ℕ) → so_far n i ≡ front ++ e ∷ back → (k : PlainEntry) → k ∈ a.knew e.mark → k ∈ front
-        first front back e i q k m =
-            let t = tentative_of (histories n i) in
-            let at : entries_of (histories n i) ≡ front ++ e ∷ (back ++ t) = ap (λ l. l ++ t) q ∙ append_assoc front (e ∷ back) t in
-            let w = known_here H i e (subst (λ l. e ∈ l) (sym at) (stands e front (back ++ t))) in
-            behind H i e front (back ++ t) w.0 at w.1 k ((S.knew e w.0 w.1).0 k m)
-
-        before :
-            (i j : ℕ) (e f : PlainEntry) → (older : List PlainRecord) × MadeAfter n e older × (entries_of older ⊆ entries_of (histories n i))
-            → (older : List PlainRecord) × MadeAfter n f older × (entries_of older ⊆ entries_of (histories n j)) → e.mark.hut ≡ f.mark.hut
-            → e.mark.stamp < f.mark.stamp → e ∈ a.knew f.mark
-        before i j e f w v q l = elim (made_order H e f w.0 v.0 w.1 v.1 q) [
-          | inl r ↦ absurd (let z = ap (λ (x : PlainEntry). x.mark.stamp) r.0 in omega arith)
-          | inr (inl r) ↦ (S.knew f v.0 v.1).1 e r
-          | inr (inr r) ↦ absurd (let z = (made-own H e w.0 w.1).above f r in omega arith)
-        ]
-
-pub described : Always Described
-described es = let I = after_holds es in (page_of (after es) I, shows (after es) I, sound (after es) I (page_of (after es) I) (shows (after es) I))
+  -- what a hut knows is closed, in every page that shows the net
+  pub closed_now : (a : Page) → Shows n a → (i : ℕ) → Closed a (a.now i)
+  closed_now a S i = (
+    λ e m k u. let w = known_here (huts_of n I) i e ((S.now i).set.0 e m) in (S.now i).set.1 k (w.2 k ((S.knew e w.0 w.1).0 k u)),
+    λ k m.
+        (S.now i).set.1 k
+        (Memᴰ.append_left (tentative_of (histories n i)) (subst (λ l. k ∈ l) (sym (ap (λ (l : PlainLog). l.committed) (S.now i).log)) m)),
+  )

@@ -1,25 +1,25 @@
 -- One hut of a net changes: which step that is of the pages that show the net before and after.
-use Rattle.std.proofs.Common.{◌≡◌, ◌≢◌, ℕ, suc, max, ◌<◌, ◌≤◌, ◌⊎◌, List, [], ◌∷◌, ◌++◌, length, sym, refl, ap, ◌∙◌, subst, inl, inr, append_assoc, arith, length-append}
+use Rattle.std.proofs.Common.{◌≡◌, ◌≢◌, ℕ, max, ◌<◌, ◌≤◌, ◌⊎◌, List, [], ◌∷◌, ◌++◌, length, sym, refl, ap, ◌∙◌, subst, inl, inr, append_assoc, arith, length-append}
 use Rattle.std.proofs.lemmas.Bool.{cases_eq}
 use Rattle.std.proofs.lemmas.List.{append_cancel_left}
 use mathlib.Core.List.Memᴰ
 use Rattle.bookings.specs.Plain.{PlainEntry}
 use Rattle.journal.specs.History.{Committed, Kept, PlainRecord, Tentative, history_of}
 use Rattle.entry_log.specs.Logs.{PlainLog}
-use Rattle.network.specs.Abstract.{Alone, Committing, Forgetting, Learning, Making, Page, Part, SamePart, SameSet, Syncing, line, log}
+use Rattle.network.specs.Abstract.{Alone, Committing, Forgetting, Learning, Making, Page, Part, SamePart, SameSet, Syncing, line}
 use Rattle.network.specs.Net.{Net}
 use Rattle.network.specs.Promise.{MadeAfter, Prefix}
-use Rattle.network.specs.Refinement.{Draws, Longest, Shows}
+use Rattle.network.specs.Refinement.{Draws, Shows}
 use Rattle.network.specs.Replicas.{committed_of, entries_of, tentative_of}
-use Rattle.network.proofs.AbstractLists.{longest_more, longest_same, prefix_both, prefix_long}
-use Rattle.network.proofs.AbstractShows.{one_mark, sound}
+use Rattle.network.proofs.AbstractLists.{longest_more, longest_same, prefix_long}
+use Rattle.network.proofs.AbstractShows.{closed_now, one_mark}
 use Rattle.network.proofs.Growth.{Grows, made_grows}
 use Rattle.network.proofs.Holds.{Holds, durables, durably, histories, huts_of, so_far}
 use Rattle.network.proofs.Knowing.{known_here, made_once}
 use Rattle.network.proofs.Logs.{log-committed, log_new, log_old, log_only}
-use Rattle.network.proofs.Marks.{◌∈◌, ◌⊆◌}
-use Rattle.network.proofs.Lists.{by_cons, none_in}
-use Rattle.network.proofs.Parts.{Older, committed_older, older_one, older_self, prefix_either, prefix_full, prefix_self, prefix_trans}
+use Rattle.network.proofs.Marks.{◌∈◌}
+use Rattle.network.proofs.Lists.{by_cons}
+use Rattle.network.proofs.Parts.{Older, committed_older, older_self, prefix_full, prefix_self, prefix_trans}
 use Rattle.network.proofs.Valid.{log_older}
 
 same_set : (s t : List PlainEntry) → s ≡ t → SameSet s t
@@ -31,6 +31,10 @@ set_trans s t u p q = (λ k m. q.0 k (p.0 k m), λ k m. p.1 k (q.1 k m))
 pub set_turned : (s t : List PlainEntry) → SameSet s t → SameSet t s
 set_turned s t p = (p.1, p.0)
 
+nil_end : (s t : List PlainEntry) → s ++ t ≡ [] → t ≡ []
+nil_end [] t q = q
+nil_end (e ∷ s) t q = absurd (omega (arith, ap length q))
+
 -- parts that show the same records are the same
 part_same : (a b : Page) (p q : Part) (rs ss : List PlainRecord) → Draws a rs p → Draws b ss q → ss ≡ rs → SamePart q p
 part_same a b p q rs ss d e is = (
@@ -40,7 +44,7 @@ part_same a b p q rs ss d e is = (
 
 -- both nets are shown, and only hut i differs
 module _ {every every' : List PlainEntry} (n n' : Net) (I : Holds every n) (I' : Holds every' n') (a b : Page) (S : Shows n a) (T : Shows n' b) (i : ℕ)
-  (others : (j : ℕ) → j ≢ i → n'.hut j ≡ n.hut j) where
+    (others : (j : ℕ) → j ≢ i → n'.hut j ≡ n.hut j) where
   pub at_each : (P : Kept → Kept → Type 0) → ((k : Kept) → P k k) → P (n.hut i) (n'.hut i) → (h : ℕ) → P (n.hut h) (n'.hut h)
   at_each P self here h = elim (cases_eq h i) [
     | inl q ↦ subst (λ x. P (n.hut x) (n'.hut x)) (sym q) here
@@ -106,7 +110,7 @@ module _ {every every' : List PlainEntry} (n n' : Net) (I : Holds every n) (I' :
               | inr u ↦ Memᴰ.tail ((S.now i).set.1 k u)
             ],
             λ k m. (T.now i).set.1 k (subst (λ r. k ∈ entries_of r) (sym is)
-            (by_cons m (λ q. Memᴰ.cast q (log_new (Tentative e) (histories n i))) (λ u. log_old e (histories n i) k ((S.now i).set.0 k u)))),
+                (by_cons m (λ q. Memᴰ.cast q (log_new (Tentative e) (histories n i))) (λ u. log_old e (histories n i) k ((S.now i).set.0 k u)))),
           );
           synced = synced_same;
           ink = ink_same;
@@ -115,7 +119,7 @@ module _ {every every' : List PlainEntry} (n n' : Net) (I : Holds every n) (I' :
 
     -- the hut that has all of the list commits its first tentative entry
     module _ (e : PlainEntry) (es : List PlainEntry) (is : histories n' i ≡ Committed e ∷ histories n i) (first : tentative_of (histories n i) ≡ e ∷ es)
-      (most : (j : ℕ) → Prefix (so_far n j) (so_far n i)) where
+        (most : (j : ℕ) → Prefix (so_far n j) (so_far n i)) where
       has_line : line a ≡ so_far n i
       has_line = longest_same (so_far n) (so_far n) (λ j. refl) (line a) (so_far n i) S.line (record { each = most; one = inr (i, refl) })
 
@@ -146,7 +150,7 @@ module _ {every every' : List PlainEntry} (n n' : Net) (I : Holds every n) (I' :
                 | inr u ↦ u
               ]),
               λ k m. (T.now i).set.1 k (subst (λ r. k ∈ entries_of r) (sym is)
-              (log-committed e (histories n i) (λ x u q. one_mark (huts_of n I) i i x e u known q) k ((S.now i).set.0 k m))),
+                  (log-committed e (histories n i) (λ x u q. one_mark (huts_of n I) i i x e u known q) k ((S.now i).set.0 k m))),
             );
             synced = synced_same;
             ink = ink_same;
@@ -157,8 +161,8 @@ module _ {every every' : List PlainEntry} (n n' : Net) (I : Holds every n) (I' :
 
     -- the hut learns what others have for good
     module _ (more : Older (histories n i) (histories n' i))
-      (from : (k : PlainEntry) → k ∈ entries_of (histories n' i) → (k ∈ entries_of (histories n i)) ⊎ ((h : ℕ) × (k ∈ entries_of (durables n h))))
-      (far : (length (so_far n' i) ≡ length (so_far n i)) ⊎ ((h : ℕ) × (length (so_far n' i) ≤ length (durably n h)))) where
+        (from : (k : PlainEntry) → k ∈ entries_of (histories n' i) → (k ∈ entries_of (histories n i)) ⊎ ((h : ℕ) × (k ∈ entries_of (durables n h))))
+        (far : (length (so_far n' i) ≡ length (so_far n i)) ⊎ ((h : ℕ) × (length (so_far n' i) ≤ length (durably n h)))) where
       longer : Prefix (so_far n i) (so_far n' i)
       longer = committed_older (histories n i) (histories n' i) more
 
@@ -188,7 +192,7 @@ module _ {every every' : List PlainEntry} (n n' : Net) (I : Holds every n) (I' :
             alone = alone (inl (grows more));
             more = λ k m. (T.now i).set.1 k (log_older every' (durables n') i (histories n i) (histories n' i) more (I'.valid i) k ((S.now i).set.0 k m));
             from = λ k m. elim (from k ((T.now i).set.0 k m)) [ inl u ↦ inl ((S.now i).set.1 k u) | inr w ↦ inr (w.0, (S.synced w.0).set.1 k w.1) ];
-            closed = (sound n' I' b T).closed i;
+            closed = closed_now n' I' b T i;
             longer = omega (arith, (S.now i).count, (T.now i).count, prefix_long (so_far n i) (so_far n' i) longer);
             far = elim far [
               | inl q ↦ inl ((T.now i).count ∙ q ∙ sym (S.now i).count)
@@ -216,7 +220,7 @@ module _ {every every' : List PlainEntry} (n n' : Net) (I : Holds every n) (I' :
             alone = alone (inr (grew less));
             kept = λ k m. (T.now i).set.1 k (log_older every' (durables n') i (durables n i) (histories n' i) at_least (I'.valid i) k ((S.synced i).set.0 k m));
             less = λ k m. (S.now i).set.1 k (log_older every (durables n) i (histories n' i) (histories n i) less (I.valid i) k ((T.now i).set.0 k m));
-            closed = (sound n' I' b T).closed i;
+            closed = closed_now n' I' b T i;
             at_least = omega (arith, (S.synced i).count, (T.now i).count, prefix_long (durably n i) (so_far n' i) (committed_older (durables n i) (histories n' i) at_least));
             at_most = omega (arith, (S.now i).count, (T.now i).count, prefix_long (so_far n' i) (so_far n i) (committed_older (histories n' i) (histories n i) less));
             synced = synced_same;
@@ -224,9 +228,10 @@ module _ {every every' : List PlainEntry} (n n' : Net) (I : Holds every n) (I' :
             draft = (
               line_less.0,
               append_cancel_left a.ink a.draft (b.draft ++ line_less.0)
-              (line_less.1 ∙ append_assoc b.ink b.draft line_less.0 ∙ ap (λ l. l ++ (b.draft ++ line_less.0)) ink_same),
+                  (line_less.1 ∙ append_assoc b.ink b.draft line_less.0 ∙ ap (λ l. l ++ (b.draft ++ line_less.0)) ink_same),
             );
-            seen = λ j. omega (arith, (T.now j).count, prefix_long (so_far n' j) (line b) (T.line.each j));
+            within = λ j. omega (arith, (T.now j).count, prefix_long (so_far n' j) (line b) (T.line.each j));
+            had = elim T.line.one [ inl q ↦ inl (nil_end b.ink b.draft q) | inr w ↦ inr (w.0, (T.now w.0).count ∙ ap length w.1) ];
           }
 
   -- the hut has for good what it has now

@@ -1,5 +1,5 @@
 -- What a hut has learned by a letter: what is durable where it comes from.
-use Rattle.std.proofs.Common.{◌≡◌, ℕ, ◌≤◌, ◌⊎◌, List, [], ◌∷◌, ◌++◌, length, sym, refl, ap, ◌∙◌, subst, inl, inr, arith, length-append}
+use Rattle.std.proofs.Common.{◌≡◌, ℕ, ◌≤◌, ◌⊎◌, List, [], ◌∷◌, length, sym, refl, ap, subst, inl, inr, arith, length-append}
 use mathlib.Core.List.Memᴰ
 use mathlib.Core.List.{Memᴰ}
 use Rattle.bookings.specs.Plain.{PlainEntry}
@@ -68,8 +68,10 @@ module _ {every : List PlainEntry} (n : Net) (I : Holds every n) (i : ℕ) where
           | inr u ↦ L.from k u
         ];
         far =
-            inr (s.0,
-            omega (arith, length-append c (e ∷ []), (committed_allowed p e.mark (state_in r) q).1, s.1.3, ap length s.1.2, length-append s.1.0 (e ∷ s.1.1)));
+            inr (
+              s.0,
+              omega (arith, length-append c (e ∷ []), (committed_allowed p e.mark (state_in r) q).1, s.1.3, ap length s.1.2, length-append s.1.0 (e ∷ s.1.1)),
+            );
       })
       L
 

@@ -1,6 +1,9 @@
+pub mod AbstractKeeps
 pub mod AbstractLaws
 pub mod AbstractLists
 pub mod AbstractLogs
+pub mod AbstractMoves
+pub mod AbstractReached
 pub mod AbstractShows
 pub mod AbstractSteps
 pub mod Agree
@@ -33,6 +36,7 @@ pub mod Next
 pub mod NextSettled
 pub mod NextWaiting
 pub mod Numbers
+mod PageGives
 pub mod Parts
 pub mod Promises
 pub mod Putting

@@ -4,6 +4,7 @@ use Rattle.network.specs.Promised.{Promised}
 use Rattle.network.proofs.Agree.{can_agree}
 use Rattle.network.proofs.Exchange.{letters_needed}
 use Rattle.network.proofs.Handed.{handed_on_stays}
+use Rattle.network.proofs.Refining.{refines, runs_are_steps}
 use Rattle.network.proofs.Safety.{behind_known, cancelled-holds-nothing, final, guests_keep, known_stays, known_when_written, named_before, no_gaps, once_each, one_order, one_primary, primary_leads, slips_say, stood_says, vectors_say}
 use Rattle.network.proofs.Same.{same_log}
 use Rattle.network.proofs.Slipping.{behind_covered, covered_stays, served_stays}
@@ -36,4 +37,6 @@ promised es =
       taken-whole = taken-whole es;
       letters_needed = letters_needed es;
       can_agree = can_agree es;
+      refines = refines es;
+      runs_are_steps = runs_are_steps es;
     }

@@ -4,14 +4,14 @@ use Rattle.std.proofs.lemmas.Bool.{eq-eqb, ne_eqb}
 use mathlib.Core.List.Memᴰ
 use Rattle.bookings.specs.Plain.{PlainEntry, PlainKind}
 use Rattle.journal.specs.History.{Committed, Kept, PlainRecord, Tentative, commits, commits_entry, crashed, history_of, makes, state_in, synced, wrote}
-use Rattle.entry_log.specs.Logs.{first_entry, top}
+use Rattle.entry_log.specs.Logs.{first_entry}
 use Rattle.replica.specs.Model.{entry_made, is_primary, leader, make_refusal}
 use Rattle.network.specs.Abstract.{Page, Step, Steps, blank, commit, forget, learn, make, none, sync, then}
-use Rattle.network.specs.Net.{Commits, Crashes, Damaged, Event, Guest, Makes, MakesFor, Net, Syncs, Takes, TakesBut, Visits, Writes, after, among, gives, huts, makes_for, put, run, served, shown, start, step, take_nth, take_nth_but, unless_refused, visit, with_guest, with_hut}
+use Rattle.network.specs.Net.{Commits, Crashes, Damaged, Event, Makes, MakesFor, Net, Syncs, Takes, TakesBut, Visits, Writes, after, among, gives, huts, makes_for, put, run, served, shown, start, step, take_nth, take_nth_but, unless_refused, visit, with_guest, with_hut}
 use Rattle.network.specs.Promise.{Always}
-use Rattle.network.specs.Refinement.{EventsAreSteps, Refines, Shows}
+use Rattle.network.specs.Refinement.{Refines, RunsAreSteps, Shows}
 use Rattle.network.specs.Replicas.{entries_of, tentative_in}
-use Rattle.network.proofs.AbstractShows.{page_of, shows, sound}
+use Rattle.network.proofs.AbstractShows.{page_of, shows}
 use Rattle.network.proofs.AbstractSteps as pages
 use Rattle.network.proofs.Alone.{commit_step, crash_step, make-step, sync_step}
 use Rattle.network.proofs.Holds.{Holds, durables, durably, histories, hut-again, so_far}
@@ -175,9 +175,6 @@ goes (Crashes i lost) n I a S = low-goes i _ n a S (λ low. crashing n I a S i l
 goes (Visits g i) n I a S = low-goes i _ n a S (λ low. visiting n I a S i g)
 goes (MakesFor g i kind) n I a S = low-goes i _ n a S (λ low. making_for n I a S i g kind low)
 
-pub events_are_steps : Always EventsAreSteps
-events_are_steps es e a S = goes e (after es) (after_holds es) a S
-
 -- every list of events
 run_goes : (es : List Event) {every : List PlainEntry} (n : Net) → Holds every n → (a : Page) → Shows n a → Goes a (run es n)
 unfolding run
@@ -197,7 +194,8 @@ start_shows =
       knew = λ e older made. absurd (front_not_nil (Tentative e) made.0 older made.1);
     }
 
+pub runs_are_steps : Always RunsAreSteps
+runs_are_steps es later a S = run_goes later (after es) (after_holds es) a S
+
 pub refines : Always Refines
-refines es =
-    let r = run_goes es start start-holds blank start_shows in
-    (r.0, r.1, r.2, sound (after es) (after_holds es) r.0 r.2)
+refines es = run_goes es start start-holds blank start_shows

@@ -100,7 +100,11 @@ pub record Syncing (i : ℕ) (a b : Page) : Type 0 where
   pub as_far : length b.ink ≡ max (length a.ink) (a.now i).count
   pub whole : line b ≡ line a
 
--- forget, in a crash: back to a part that it had once, at or after its last sync; what nobody has of the draft then is gone
+-- somebody has all of the draft, if there is any
+abbrev pub Had : Page → Type 0
+Had a = (a.draft ≡ []) ⊎ ((j : ℕ) × ((a.now j).count ≡ length (line a)))
+
+-- forget, in a crash: back to a closed part between what it has for good and what it had; what nobody has of the draft then is gone
 pub record Forgetting (i : ℕ) (a b : Page) : Type 0 where
   pub alone : Alone i a b
   pub kept : Within (a.synced i).set (b.now i).set
@@ -111,7 +115,8 @@ pub record Forgetting (i : ℕ) (a b : Page) : Type 0 where
   pub synced : SamePart (b.synced i) (a.synced i)
   pub ink : b.ink ≡ a.ink
   pub draft : Prefix b.draft a.draft
-  pub seen : (j : ℕ) → (b.now j).count ≤ length (line b)
+  pub within : (j : ℕ) → (b.now j).count ≤ length (line b)
+  pub had : Had b
 
 pub data Step (a b : Page) : Type 0 where
   make : (i : ℕ) (e : PlainEntry) → Making i e a b → Step a b
@@ -124,15 +129,23 @@ pub data Steps (a : Page) : Page → Type 0 where
   none : Steps a a
   then : {b c : Page} → Steps a b → Step b c → Steps a c
 
--- what holds of a page
+abbrev pub Reached : Page → Type 0
+Reached a = Steps blank a
+
+-- what holds of every page that is reached
 pub record Sound (a : Page) : Type 0 where
   pub closed : (i : ℕ) → Closed a (a.now i)
+  pub lasting : (i : ℕ) → Closed a (a.synced i)
   pub behind : (front back : List PlainEntry) (e : PlainEntry) → line a ≡ front ++ e ∷ back → Within (a.knew e.mark) front
   pub lower : (i : ℕ) (e k : PlainEntry) → Memᴰ e (a.now i).set → Memᴰ k (a.knew e.mark) → k.mark.stamp < e.mark.stamp
   pub once : (i j : ℕ) (e f : PlainEntry) → Memᴰ e (a.now i).set → Memᴰ f (a.now j).set → e.mark ≡ f.mark → e ≡ f
   pub own :
       (i j : ℕ) (e f : PlainEntry) → Memᴰ e (a.now i).set → Memᴰ f (a.now j).set → e.mark.hut ≡ f.mark.hut → e.mark.stamp < f.mark.stamp
       → Memᴰ e (a.knew f.mark)
+
+-- LAW: whatever the steps, all this holds.
+abbrev pub AbstractSound : Type 0
+AbstractSound = (a : Page) → Reached a → Sound a
 
 -- LAW: of what two replicas have as committed, one is the beginning of the other, since both are the first so many of one list.
 abbrev pub AbstractPrefix : Type 0
@@ -142,20 +155,22 @@ AbstractPrefix =
 -- LAW: an entry stands, in every log that has it, behind all that its maker knew.
 abbrev pub AbstractCausal : Type 0
 AbstractCausal =
-    (a : Page) → Sound a → (i : ℕ) (front back : List PlainEntry) (e : PlainEntry) → all_of (log (line a) (a.now i)) ≡ front ++ e ∷ back
+    (a : Page) → Reached a → (i : ℕ) (front back : List PlainEntry) (e : PlainEntry) → all_of (log (line a) (a.now i)) ≡ front ++ e ∷ back
     → Within (a.knew e.mark) front
 
 -- LAW: replicas with the same set and as many committed have the same log, since it is a function of both.
 abbrev pub AbstractSame : Type 0
 AbstractSame =
-    (a : Page) → Sound a → (i j : ℕ) → SamePart (a.now i) (a.now j) → log (line a) (a.now i) ≡ log (line a) (a.now j)
+    (a : Page) → Reached a → (i j : ℕ) → SamePart (a.now i) (a.now j) → log (line a) (a.now i) ≡ log (line a) (a.now j)
 
 -- LAW: who knows an entry knows all that its hut made before it.
 abbrev pub AbstractGaps : Type 0
 AbstractGaps =
-    (a : Page) → Sound a → (i j : ℕ) (e f : PlainEntry) → Memᴰ e (a.now j).set → Memᴰ f (a.now i).set → e.mark.hut ≡ f.mark.hut
+    (a : Page) → Reached a → (i j : ℕ) (e f : PlainEntry) → Memᴰ e (a.now j).set → Memᴰ f (a.now i).set → e.mark.hut ≡ f.mark.hut
     → e.mark.stamp < f.mark.stamp → Memᴰ e (a.now i).set
 
--- LAW: no step changes ink but at its end.
+-- LAW: ink changes at its end alone, and what of it a replica has for good it keeps.
 abbrev pub AbstractFinal : Type 0
-AbstractFinal = (a b : Page) → Steps a b → Prefix a.ink b.ink
+AbstractFinal =
+    (a b : Page) → Reached a → Steps a b
+    → Prefix a.ink b.ink × ((i : ℕ) → (a.synced i).count ≤ (b.synced i).count) × ((i : ℕ) → (b.synced i).count ≤ length b.ink)

@@ -2,6 +2,7 @@
 use Rattle.std.specs.Prelude.{List}
 use Rattle.network.specs.Net.{Event}
 use Rattle.network.specs.Promise.{OneOrder, OnePrimary, PrimaryLeads, Final, HandedOnStays, SameLog, OnceEach, BehindKnown, NamedBefore, CancelledHoldsNothing, NoGaps, VectorsSay, KnownStays, KnownWhenWritten, StoodSays, GuestsKeep, SlipsSay, LettersBring, TakenWhole, LettersNeeded, CanAgree}
+use Rattle.network.specs.Refinement.{Refines, RunsAreSteps}
 use Rattle.network.specs.Slips.{CoveredStays, ServedStays, BehindCovered}
 
 pub record Promised (es : List Event) : Type 0 where
@@ -29,3 +30,5 @@ pub record Promised (es : List Event) : Type 0 where
   pub taken-whole : TakenWhole es
   pub letters_needed : LettersNeeded es
   pub can_agree : CanAgree es
+  pub refines : Refines es
+  pub runs_are_steps : RunsAreSteps es

@@ -1,13 +1,14 @@
 -- What a page shows of the network, and that the network does no more than the page allows.
 use Rattle.std.specs.Prelude.{◌≡◌, ℕ, ◌<◌, ◌⊎◌, List, [], ◌∷◌, ◌++◌, length}
 use mathlib.Core.List.{Memᴰ}
-use Rattle.bookings.specs.Plain.{PlainEntry}
-use Rattle.journal.specs.History.{PlainRecord, history_of, log_of}
-use Rattle.entry_log.specs.Logs.{all_of}
-use Rattle.network.specs.Abstract.{Within, SameSet, Part, Page, Steps, Sound, log, line, blank}
-use Rattle.network.specs.Net.{Net, Event, after, step}
+use Rattle.bookings.specs.Books.{book_of}
+use Rattle.bookings.specs.Plain.{PlainEntry, PlainMark}
+use Rattle.journal.specs.History.{PlainRecord, history_of, log_of, state_in}
+use Rattle.entry_log.specs.Logs.{has}
+use Rattle.network.specs.Abstract.{SameSet, Part, Page, Reached, Steps, log, line}
+use Rattle.network.specs.Net.{Net, Event, after, run}
 use Rattle.network.specs.Promise.{Prefix, MadeAfter}
-use Rattle.network.specs.Replicas.{committed_of, entries_of, committed_in}
+use Rattle.network.specs.Replicas.{committed_of, entries_of, committed_in, entries_in}
 
 -- a part shows some records: what they have as committed, what they have in all, and their log
 pub record Draws (a : Page) (rs : List PlainRecord) (p : Part) : Type 0 where
@@ -28,14 +29,34 @@ pub record Shows (n : Net) (a : Page) : Type 0 where
   pub ink : Longest (λ i. committed_of (n.hut i).durable) a.ink
   pub knew : (e : PlainEntry) (older : List PlainRecord) → MadeAfter n e older → SameSet (a.knew e.mark) (entries_of older)
 
--- LAW: after every list of events a page shows the network, and what holds of pages holds of it.
-abbrev pub Described : List Event → Type 0
-Described es = (a : Page) × Shows (after es) a × Sound a
-
--- LAW: whichever page shows the network, each event is some steps of it, to a page that shows the network then.
-abbrev pub EventsAreSteps : List Event → Type 0
-EventsAreSteps es = (e : Event) (a : Page) → Shows (after es) a → (b : Page) × Steps a b × Shows (step e (after es)) b
-
--- LAW: every run of the network is a run of the page, and what holds of pages holds of it.
+-- LAW: every run of the network is a run of the page.
 abbrev pub Refines : List Event → Type 0
-Refines es = (a : Page) × Steps blank a × Shows (after es) a × Sound a
+Refines es = (a : Page) × Reached a × Shows (after es) a
+
+-- LAW: from whichever page shows the network, whatever comes is some steps, to a page that shows the network then; so each event is some steps.
+abbrev pub RunsAreSteps : List Event → Type 0
+RunsAreSteps es = (later : List Event) (a : Page) → Shows (after es) a → (b : Page) × Steps a b × Shows (run later (after es)) b
+
+-- what a page says of a net that it shows, in the words of the laws of the network: `OneOrder`, `BehindKnown`, `NoGaps` and `SameLog`
+pub record Ordered (n : Net) : Type 0 where
+  pub one_order : (i j : ℕ) → Prefix (committed_in (n.hut i)) (committed_in (n.hut j)) ⊎ Prefix (committed_in (n.hut j)) (committed_in (n.hut i))
+  pub behind_known :
+      (i : ℕ) (front back : List PlainEntry) (e : PlainEntry) → entries_in (n.hut i) ≡ front ++ e ∷ back
+      → (older : List PlainRecord) → MadeAfter n e older → (k : PlainEntry) → Memᴰ k (entries_of older) → Memᴰ k front
+  pub no_gaps :
+      (i j : ℕ) (e f : PlainEntry) → Memᴰ e (entries_in (n.hut j)) → Memᴰ f (entries_in (n.hut i)) → e.mark.hut ≡ f.mark.hut
+      → e.mark.stamp < f.mark.stamp → Memᴰ e (entries_in (n.hut i))
+  pub same_log :
+      (i j : ℕ) → ((m : PlainMark) → has m (entries_in (n.hut i)) ≡ has m (entries_in (n.hut j)))
+      → length (committed_in (n.hut i)) ≡ length (committed_in (n.hut j))
+      → ((state_in (n.hut i)).log ≡ (state_in (n.hut j)).log) × (book_of (entries_in (n.hut i)) ≡ book_of (entries_in (n.hut j)))
+
+-- LAW: whatever a net is, if a page that is reached shows it, the laws on order, causes, gaps and agreement hold of it.
+abbrev pub PageGives : Type 0
+PageGives = (n : Net) (a : Page) → Reached a → Shows n a → Ordered n
+
+-- LAW: and whatever nets are, if steps lead from a page that shows the one to a page that shows the other, what was committed for good stays: `Final`.
+abbrev pub PageKeeps : Type 0
+PageKeeps =
+    (n m : Net) (a b : Page) → Reached a → Shows n a → Steps a b → Shows m b
+    → (i : ℕ) → Prefix (committed_of (n.hut i).durable) (committed_of (m.hut i).durable)

@@ -1,12 +1,12 @@
 // The laws of the network: each function's contract is a law.
-ghost use Rattle.network.specs.Abstract.{AbstractCausal, AbstractFinal, AbstractGaps, AbstractPrefix, AbstractSame};
+ghost use Rattle.network.specs.Abstract.{AbstractCausal, AbstractFinal, AbstractGaps, AbstractPrefix, AbstractSame, AbstractSound};
 ghost use Rattle.network.specs.Cases.{SixCases, SixCasesPlayed};
 ghost use Rattle.network.specs.Days.{DayOf, Happens, DaysStay, TimedAgree, TimedIsRun};
 ghost use Rattle.network.specs.Harm.{NoLetterHarms};
 ghost use Rattle.network.specs.Mail.{Mailed};
 ghost use Rattle.network.specs.Promise.{Always, OneOrder, OnePrimary, PrimaryLeads, Final, HandedOnStays, SameLog, OnceEach, BehindKnown, NamedBefore, CancelledHoldsNothing, NoGaps, VectorsSay, KnownStays, KnownWhenWritten, StoodSays, GuestsKeep, SlipsSay, LettersBring, TakenWhole, LettersNeeded, CanAgree};
 ghost use Rattle.network.specs.Promised.{Promised};
-ghost use Rattle.network.specs.Refinement.{Described, EventsAreSteps, Refines};
+ghost use Rattle.network.specs.Refinement.{PageGives, PageKeeps, Refines, RunsAreSteps};
 ghost use Rattle.network.specs.Slips.{CoveredStays, ServedStays, BehindCovered};
 ghost use Rattle.std.specs.Prelude.{List};
 
@@ -166,6 +166,11 @@ pub fn timed_agree()
     ensures { (day_of : DayOf) (es : List Happens) → TimedAgree day_of es }
 {}
 
+// Of every page that steps lead to: a replica's set is closed, and what is committed stands behind all that its maker knew.
+pub fn abstract_sound()
+    ensures { AbstractSound }
+{}
+
 // Of a page: of what two replicas have as committed one is the beginning of the other. It gives `one_order`.
 pub fn abstract_prefix()
     ensures { AbstractPrefix }
@@ -191,17 +196,22 @@ pub fn abstract_final()
     ensures { AbstractFinal }
 {}
 
-// After every list of events a page shows the network.
-pub fn described()
-    ensures { Always Described }
-{}
-
-// Each event is some steps of the page that shows the network.
-pub fn events_are_steps()
-    ensures { Always EventsAreSteps }
-{}
-
 // Every run of the network is a run of the page.
 pub fn refines()
     ensures { Always Refines }
+{}
+
+// From whichever page shows the network, whatever comes is some steps.
+pub fn runs_are_steps()
+    ensures { Always RunsAreSteps }
+{}
+
+// A net that a page shows is ordered, whatever it is: `one_order`, `behind_known`, `no_gaps` and `same_log`, from the page alone.
+pub fn page_gives()
+    ensures { PageGives }
+{}
+
+// What is committed for good in a net that a page shows stays by every step: `final_stays`, from the page alone.
+pub fn page_keeps()
+    ensures { PageKeeps }
 {}

@@ -1,4 +1,4 @@
-use Rattle.network.proofs.AbstractLaws.{abstract_final}
+use Rattle.network.proofs.AbstractReached.{abstract_final}
 use Rattle.network.proofs.laws.abstract_final.Goals as goal
 
 pub returns : goal.returns

@@ -1,4 +1,4 @@
-use Rattle.network.proofs.AbstractLaws.{abstract_gaps}
+use Rattle.network.proofs.AbstractReached.{abstract_gaps}
 use Rattle.network.proofs.laws.abstract_gaps.Goals as goal
 
 pub returns : goal.returns

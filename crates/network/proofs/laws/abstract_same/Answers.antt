@@ -1,4 +1,4 @@
-use Rattle.network.proofs.AbstractLaws.{abstract_same}
+use Rattle.network.proofs.AbstractReached.{abstract_same}
 use Rattle.network.proofs.laws.abstract_same.Goals as goal
 
 pub returns : goal.returns
