@@ -3,7 +3,8 @@ use Rattle.std.proofs.Common.{◌≡◌, ℕ, ◌<◌, List, ◌∷◌, ◌++◌
 use mathlib.Core.List.Memᴰ
 use Rattle.bookings.specs.Plain.{PlainEntry}
 use Rattle.entry_log.specs.Logs.{all_of, has}
-use Rattle.network.specs.Abstract.{Page, SamePart, Sound, Within, line, log, rest}
+use Rattle.network.specs.Abstract.{Page, SamePart, Within, list, log, rest}
+use Rattle.network.specs.AbstractLaws.{Sound}
 use Rattle.network.proofs.AbstractLogs.{rest_has, rest_only, rest_same, rest_sorted}
 use Rattle.network.proofs.Lists.{by_append, by_cons, split-two, stands}
 use Rattle.network.proofs.Marks.{◌∈◌, has-fresh, has_one}
@@ -15,30 +16,30 @@ pub no_gaps_in :
     → e.mark.stamp < f.mark.stamp → e ∈ (a.now i).set
 no_gaps_in a s i j e f m n q l = (s.closed i).0 f n e (s.own j i e f m n q l)
 
-pub same_in : (a : Page) → Sound a → (i j : ℕ) → SamePart (a.now i) (a.now j) → log (line a) (a.now i) ≡ log (line a) (a.now j)
+pub same_in : (a : Page) → Sound a → (i j : ℕ) → SamePart (a.now i) (a.now j) → log (list a) (a.now i) ≡ log (list a) (a.now j)
 same_in a s i j same =
-    ap (λ n. log (line a) (record { count = n; set = (a.now i).set })) same.0
-    ∙ ap (λ l. record { committed = take (a.now j).count (line a); tentative = l })
-    (rest_same (take (a.now j).count (line a)) (a.now i).set (a.now j).set (λ k m e n. s.once i i e k n m) same.1)
+    ap (λ n. log (list a) (record { count = n; set = (a.now i).set })) same.0
+    ∙ ap (λ l. record { committed = take (a.now j).count (list a); tentative = l })
+    (rest_same (take (a.now j).count (list a)) (a.now i).set (a.now j).set (λ k m e n. s.once i i e k n m) same.1)
 
 pub causal_in :
-    (a : Page) → Sound a → (i : ℕ) (front back : List PlainEntry) (e : PlainEntry) → all_of (log (line a) (a.now i)) ≡ front ++ e ∷ back
+    (a : Page) → Sound a → (i : ℕ) (front back : List PlainEntry) (e : PlainEntry) → all_of (log (list a) (a.now i)) ≡ front ++ e ∷ back
     → Within (a.knew e.mark) front
 causal_in a s i front back e q k m =
     elim (split-two c r front back e q) [
       | inl p ↦
-          s.behind front (p.0 ++ drop (a.now i).count (line a)) e
-          (sym (take-append-drop (a.now i).count (line a)) ∙ ap (λ l. l ++ drop (a.now i).count (line a)) p.1
-          ∙ append_assoc front (e ∷ p.0) (drop (a.now i).count (line a)))
+          s.behind front (p.0 ++ drop (a.now i).count (list a)) e
+          (sym (take-append-drop (a.now i).count (list a)) ∙ ap (λ l. l ++ drop (a.now i).count (list a)) p.1
+          ∙ append_assoc front (e ∷ p.0) (drop (a.now i).count (list a)))
           k m
       | inr p ↦ subst (λ (l : List PlainEntry). k ∈ l) (sym p.1) (among p.0 p.2)
     ]
   where
     c : List PlainEntry
-    c = take (a.now i).count (line a)
+    c = take (a.now i).count (list a)
 
     r : List PlainEntry
-    r = rest (take (a.now i).count (line a)) (a.now i).set
+    r = rest (take (a.now i).count (list a)) (a.now i).set
 
     -- what is tentative stands by marks, and what its maker knew has lower ones
     among : (d : List PlainEntry) → r ≡ d ++ (e ∷ back) → k ∈ (c ++ d)

@@ -4,7 +4,8 @@ use Rattle.std.proofs.Math.Seq.{take-append_seam}
 use mathlib.Core.List.Memᴰ
 use Rattle.bookings.specs.Plain.{PlainEntry}
 use Rattle.entry_log.specs.Logs.{PlainLog, has, into}
-use Rattle.network.specs.Abstract.{AbstractPrefix, Part, SameSet, log, rest}
+use Rattle.network.specs.Abstract.{Part, SameSet, log, rest}
+use Rattle.network.specs.AbstractLaws.{AbstractPrefix}
 use Rattle.network.specs.Promise.{Prefix}
 use Rattle.network.proofs.Lists.{by_append, by_cons, none_in}
 use Rattle.network.proofs.Marks.{Fresh, ◌∈◌, fresh-has, has-fresh, has_one}

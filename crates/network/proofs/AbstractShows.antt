@@ -7,7 +7,7 @@ use Rattle.journal.specs.History.{Committed, PlainRecord, Tentative}
 use Rattle.entry_log.proofs.Putting.{same_self}
 use Rattle.entry_log.specs.Logs.{PlainLog}
 use Rattle.replica.specs.Model.{leader}
-use Rattle.network.specs.Abstract.{Closed, Page, Part, SameSet, line}
+use Rattle.network.specs.Abstract.{Closed, Page, Part, SameSet, list}
 use Rattle.network.specs.Net.{Net}
 use Rattle.network.specs.Refinement.{Draws, Longest, Shows}
 use Rattle.network.specs.Replicas.{committed_of, entries_of, tentative_of}
@@ -53,7 +53,7 @@ module _ {every : List PlainEntry} (n : Net) (I : Holds every n) where
   pub page_of : Page
   page_of =
       record {
-        ink = I.all;
+        committed = I.all;
         draft = draft_of.0;
         knew = λ m. knew_in (histories n m.hut) m;
         now = λ i. part_of (histories n i);
@@ -68,8 +68,8 @@ module _ {every : List PlainEntry} (n : Net) (I : Holds every n) where
         count = refl;
         set = (λ k m. m, λ k m. m);
         log =
-            log_is (committed_of rs) (tentative_of rs) (line page_of) (part_of rs)
-            (prefix_trans (committed_of rs) (so_far n i) (line page_of) (committed_older rs (histories n i) o) (draft_of.1.each i)) refl
+            log_is (committed_of rs) (tentative_of rs) (list page_of) (part_of rs)
+            (prefix_trans (committed_of rs) (so_far n i) (list page_of) (committed_older rs (histories n i) o) (draft_of.1.each i)) refl
             (sorted every (durables n) i rs valid) (apart every (durables n) i rs valid)
             (λ k m e u q. one_mark (huts_of n I) i i e k (here e u) (here k m) q) (λ k m. m, λ k m. m);
       }
@@ -86,8 +86,8 @@ module _ {every : List PlainEntry} (n : Net) (I : Holds every n) where
       record {
         now = λ i. draws i (histories n i) (older_self (histories n i));
         synced = λ i. draws i (durables n i) ((huts_of n I).part i);
-        line = draft_of.1;
-        ink = longest_durable leader (durably n) (so_far n) I.all I.led;
+        list = draft_of.1;
+        committed = longest_durable leader (durably n) (so_far n) I.all I.led;
         knew = λ e older made. same (sym (knew_is every (durables n) e.mark.hut e older made.0 (subst (Valid every (durables n) e.mark.hut) made.1 (I.valid e.mark.hut))) ∙ ap (λ rs. knew_in rs e.mark) (sym made.1));
       }
     where

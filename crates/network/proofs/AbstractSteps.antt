@@ -6,7 +6,7 @@ use mathlib.Core.List.Memᴰ
 use Rattle.bookings.specs.Plain.{PlainEntry}
 use Rattle.journal.specs.History.{Committed, Kept, PlainRecord, Tentative, history_of}
 use Rattle.entry_log.specs.Logs.{PlainLog}
-use Rattle.network.specs.Abstract.{Alone, Committing, Forgetting, Learning, Making, Page, Part, SamePart, SameSet, Syncing, line}
+use Rattle.network.specs.Abstract.{Alone, Committing, Forgetting, Learning, Making, Page, Part, SamePart, SameSet, Syncing, Unsynced, list}
 use Rattle.network.specs.Net.{Net}
 use Rattle.network.specs.Promise.{MadeAfter, Prefix}
 use Rattle.network.specs.Refinement.{Draws, Shows}
@@ -81,17 +81,20 @@ module _ {every every' : List PlainEntry} (n n' : Net) (I : Holds every n) (I' :
     synced_same : SamePart (b.synced i) (a.synced i)
     synced_same = part_same a b (a.synced i) (b.synced i) (durables n i) (durables n' i) (S.synced i) (T.synced i) kept
 
-    ink_same : b.ink ≡ a.ink
-    ink_same =
-        longest_same (durably n') (durably n) (at_each (λ k r. committed_of r.durable ≡ committed_of k.durable) (λ k. refl) (ap committed_of kept)) b.ink a.ink T.ink S.ink
+    committed_same : b.committed ≡ a.committed
+    committed_same =
+        longest_same (durably n') (durably n) (at_each (λ k r. committed_of r.durable ≡ committed_of k.durable) (λ k. refl) (ap committed_of kept)) b.committed a.committed T.committed S.committed
 
-    -- then the draft is the same where the whole line is
-    draft_same : line b ≡ line a → b.draft ≡ a.draft
-    draft_same q = append_cancel_left a.ink b.draft a.draft (ap (λ l. l ++ b.draft) (sym ink_same) ∙ q)
+    unsynced : Grows (histories n) (histories n') ⊎ Grows (histories n') (histories n) → Unsynced i a b
+    unsynced g = record { alone = alone g; synced = synced_same; committed = committed_same }
 
-    line_same : so_far n' i ≡ so_far n i → line b ≡ line a
+    -- then the draft is the same where the whole list is
+    draft_same : list b ≡ list a → b.draft ≡ a.draft
+    draft_same q = append_cancel_left a.committed b.draft a.draft (ap (λ l. l ++ b.draft) (sym committed_same) ∙ q)
+
+    line_same : so_far n' i ≡ so_far n i → list b ≡ list a
     line_same q =
-        longest_same (so_far n') (so_far n) (at_each (λ k r. committed_of (history_of r) ≡ committed_of (history_of k)) (λ k. refl) q) (line b) (line a) T.line S.line
+        longest_same (so_far n') (so_far n) (at_each (λ k r. committed_of (history_of r) ≡ committed_of (history_of k)) (λ k. refl) q) (list b) (list a) T.list S.list
 
     -- the hut makes an entry
     pub makes :
@@ -99,7 +102,7 @@ module _ {every every' : List PlainEntry} (n n' : Net) (I : Holds every n) (I' :
         → ((k : PlainEntry) → k ∈ entries_of (histories n i) → k.mark.stamp < e.mark.stamp) → Making i e a b
     makes e mine is above =
         record {
-          alone = alone (inl (grows (Tentative e ∷ [], is)));
+          unsynced = unsynced (inl (grows (Tentative e ∷ [], is)));
           mine = mine;
           above = λ k m. above k ((S.now i).set.0 k m);
           knew = set_trans (b.knew e.mark) (entries_of (histories n i)) (a.now i).set (T.knew e (histories n i) ([], ap (histories n') mine ∙ is)) (set_turned (a.now i).set (entries_of (histories n i)) (S.now i).set);
@@ -112,20 +115,18 @@ module _ {every every' : List PlainEntry} (n n' : Net) (I : Holds every n) (I' :
             λ k m. (T.now i).set.1 k (subst (λ r. k ∈ entries_of r) (sym is)
                 (by_cons m (λ q. Memᴰ.cast q (log_new (Tentative e) (histories n i))) (λ u. log_old e (histories n i) k ((S.now i).set.0 k u)))),
           );
-          synced = synced_same;
-          ink = ink_same;
           draft = draft_same (line_same (ap committed_of is));
         }
 
     -- the hut that has all of the list commits its first tentative entry
     module _ (e : PlainEntry) (es : List PlainEntry) (is : histories n' i ≡ Committed e ∷ histories n i) (first : tentative_of (histories n i) ≡ e ∷ es)
         (most : (j : ℕ) → Prefix (so_far n j) (so_far n i)) where
-      has_line : line a ≡ so_far n i
-      has_line = longest_same (so_far n) (so_far n) (λ j. refl) (line a) (so_far n i) S.line (record { each = most; one = inr (i, refl) })
+      has_line : list a ≡ so_far n i
+      has_line = longest_same (so_far n) (so_far n) (λ j. refl) (list a) (so_far n i) S.list (record { each = most; one = inr (i, refl) })
 
-      line_more : line b ≡ so_far n i ++ e ∷ []
+      line_more : list b ≡ so_far n i ++ e ∷ []
       line_more =
-          longest_same (so_far n') (so_far n') (λ j. refl) (line b) (so_far n i ++ e ∷ []) T.line
+          longest_same (so_far n') (so_far n') (λ j. refl) (list b) (so_far n i ++ e ∷ []) T.list
           (record {
             each = λ j.
                 at_each (λ k r. Prefix (committed_of (history_of k)) (so_far n i) → Prefix (committed_of (history_of r)) (so_far n i ++ e ∷ []))
@@ -140,7 +141,7 @@ module _ {every every' : List PlainEntry} (n n' : Net) (I : Holds every n) (I' :
       pub commits : Committing i e a b
       commits =
           record {
-            alone = alone (inl (grows (Committed e ∷ [], is)));
+            unsynced = unsynced (inl (grows (Committed e ∷ [], is)));
             last = (S.now i).count ∙ ap length (sym has_line);
             first = (es, sym (ap (λ (l : PlainLog). l.tentative) (S.now i).log) ∙ first);
             count = omega (arith, (T.now i).count, ap (λ r. length (committed_of r)) is, (S.now i).count, length-append (so_far n i) (e ∷ []));
@@ -152,11 +153,9 @@ module _ {every every' : List PlainEntry} (n n' : Net) (I : Holds every n) (I' :
               λ k m. (T.now i).set.1 k (subst (λ r. k ∈ entries_of r) (sym is)
                   (log-committed e (histories n i) (λ x u q. one_mark (huts_of n I) i i x e u known q) k ((S.now i).set.0 k m))),
             );
-            synced = synced_same;
-            ink = ink_same;
             draft =
-                append_cancel_left a.ink b.draft (a.draft ++ e ∷ [])
-                (ap (λ l. l ++ b.draft) (sym ink_same) ∙ line_more ∙ ap (λ l. l ++ e ∷ []) (sym has_line) ∙ append_assoc a.ink a.draft (e ∷ []));
+                append_cancel_left a.committed b.draft (a.draft ++ e ∷ [])
+                (ap (λ l. l ++ b.draft) (sym committed_same) ∙ line_more ∙ ap (λ l. l ++ e ∷ []) (sym has_line) ∙ append_assoc a.committed a.draft (e ∷ []));
           }
 
     -- the hut learns what others have for good
@@ -166,30 +165,30 @@ module _ {every every' : List PlainEntry} (n n' : Net) (I : Holds every n) (I' :
       longer : Prefix (so_far n i) (so_far n' i)
       longer = committed_older (histories n i) (histories n' i) more
 
-      not_beyond : length (so_far n i) ≤ length (line a) → length (so_far n' i) ≤ length (line a)
+      not_beyond : length (so_far n i) ≤ length (list a) → length (so_far n' i) ≤ length (list a)
       not_beyond p = elim far [
         | inl q ↦ omega (arith, q, p)
         | inr w ↦
             let d = prefix_long (durably n w.0) (so_far n w.0) (committed_older (durables n w.0) (histories n w.0) ((n.hut w.0).pending, refl)) in
-            omega (arith, w.1, d, prefix_long (so_far n w.0) (line a) (S.line.each w.0))
+            omega (arith, w.1, d, prefix_long (so_far n w.0) (list a) (S.list.each w.0))
       ]
 
-      line_stays : line b ≡ line a
+      line_stays : list b ≡ list a
       line_stays =
-          prefix_full (line a) (line b)
-          (longest_more (so_far n) (so_far n') (at_each (λ k r. Prefix (committed_of (history_of k)) (committed_of (history_of r))) (λ k. prefix_self (committed_of (history_of k))) longer) (line a) (line b) S.line T.line)
-          (elim T.line.one [
+          prefix_full (list a) (list b)
+          (longest_more (so_far n) (so_far n') (at_each (λ k r. Prefix (committed_of (history_of k)) (committed_of (history_of r))) (λ k. prefix_self (committed_of (history_of k))) longer) (list a) (list b) S.list T.list)
+          (elim T.list.one [
             | inl q ↦ omega (arith, ap length q)
             | inr w ↦
-                let l = at_each (λ k r. length (committed_of (history_of k)) ≤ length (line a) → length (committed_of (history_of r)) ≤ length (line a)) (λ k p. p) not_beyond w.0
-                (prefix_long (so_far n w.0) (line a) (S.line.each w.0)) in
+                let l = at_each (λ k r. length (committed_of (history_of k)) ≤ length (list a) → length (committed_of (history_of r)) ≤ length (list a)) (λ k p. p) not_beyond w.0
+                (prefix_long (so_far n w.0) (list a) (S.list.each w.0)) in
                 omega (arith, l, ap length w.1)
           ])
 
       pub learns : Learning i a b
       learns =
           record {
-            alone = alone (inl (grows more));
+            unsynced = unsynced (inl (grows more));
             more = λ k m. (T.now i).set.1 k (log_older every' (durables n') i (histories n i) (histories n' i) more (I'.valid i) k ((S.now i).set.0 k m));
             from = λ k m. elim (from k ((T.now i).set.0 k m)) [ inl u ↦ inl ((S.now i).set.1 k u) | inr w ↦ inr (w.0, (S.synced w.0).set.1 k w.1) ];
             closed = closed_now n' I' b T i;
@@ -198,8 +197,6 @@ module _ {every every' : List PlainEntry} (n n' : Net) (I : Holds every n) (I' :
               | inl q ↦ inl ((T.now i).count ∙ q ∙ sym (S.now i).count)
               | inr w ↦ inr (w.0, omega (arith, (T.now i).count, (S.synced w.0).count, w.1))
             ];
-            synced = synced_same;
-            ink = ink_same;
             draft = draft_same line_stays;
           }
 
@@ -208,30 +205,28 @@ module _ {every every' : List PlainEntry} (n n' : Net) (I : Holds every n) (I' :
       at_least : Older (durables n i) (histories n' i)
       at_least = subst (λ r. Older r (histories n' i)) kept ((n'.hut i).pending, refl)
 
-      line_less : Prefix (line b) (line a)
+      line_less : Prefix (list b) (list a)
       line_less =
           longest_more (so_far n') (so_far n)
           (at_each (λ k r. Prefix (committed_of (history_of r)) (committed_of (history_of k))) (λ k. prefix_self (committed_of (history_of k))) (committed_older (histories n' i) (histories n i) less))
-          (line b) (line a) T.line S.line
+          (list b) (list a) T.list S.list
 
       pub forgets : Forgetting i a b
       forgets =
           record {
-            alone = alone (inr (grew less));
+            unsynced = unsynced (inr (grew less));
             kept = λ k m. (T.now i).set.1 k (log_older every' (durables n') i (durables n i) (histories n' i) at_least (I'.valid i) k ((S.synced i).set.0 k m));
             less = λ k m. (S.now i).set.1 k (log_older every (durables n) i (histories n' i) (histories n i) less (I.valid i) k ((T.now i).set.0 k m));
             closed = closed_now n' I' b T i;
             at_least = omega (arith, (S.synced i).count, (T.now i).count, prefix_long (durably n i) (so_far n' i) (committed_older (durables n i) (histories n' i) at_least));
             at_most = omega (arith, (S.now i).count, (T.now i).count, prefix_long (so_far n' i) (so_far n i) (committed_older (histories n' i) (histories n i) less));
-            synced = synced_same;
-            ink = ink_same;
             draft = (
               line_less.0,
-              append_cancel_left a.ink a.draft (b.draft ++ line_less.0)
-                  (line_less.1 ∙ append_assoc b.ink b.draft line_less.0 ∙ ap (λ l. l ++ (b.draft ++ line_less.0)) ink_same),
+              append_cancel_left a.committed a.draft (b.draft ++ line_less.0)
+                  (line_less.1 ∙ append_assoc b.committed b.draft line_less.0 ∙ ap (λ l. l ++ (b.draft ++ line_less.0)) committed_same),
             );
-            within = λ j. omega (arith, (T.now j).count, prefix_long (so_far n' j) (line b) (T.line.each j));
-            had = elim T.line.one [ inl q ↦ inl (nil_end b.ink b.draft q) | inr w ↦ inr (w.0, (T.now w.0).count ∙ ap length w.1) ];
+            within = λ j. omega (arith, (T.now j).count, prefix_long (so_far n' j) (list b) (T.list.each j));
+            had = elim T.list.one [ inl q ↦ inl (nil_end b.committed b.draft q) | inr w ↦ inr (w.0, (T.now w.0).count ∙ ap length w.1) ];
           }
 
   -- the hut has for good what it has now
@@ -242,18 +237,18 @@ module _ {every every' : List PlainEntry} (n n' : Net) (I : Holds every n) (I' :
     here_durable : length (durably n' i) ≡ (a.now i).count
     here_durable = ap (λ r. length (committed_of r)) all ∙ sym (S.now i).count
 
-    ink_more : Prefix a.ink b.ink
-    ink_more =
+    more_committed : Prefix a.committed b.committed
+    more_committed =
         longest_more (durably n) (durably n') (at_each (λ k r. Prefix (committed_of k.durable) (committed_of r.durable)) (λ k. prefix_self (committed_of k.durable)) more_durable)
-        a.ink b.ink S.ink T.ink
+        a.committed b.committed S.committed T.committed
 
-    no_further : length b.ink ≤ max (length a.ink) (a.now i).count
-    no_further = elim T.ink.one [
+    no_further : length b.committed ≤ max (length a.committed) (a.now i).count
+    no_further = elim T.committed.one [
       | inl q ↦ omega (arith, ap length q)
       | inr w ↦
-          let m = max (length a.ink) (a.now i).count in
+          let m = max (length a.committed) (a.now i).count in
           let l = at_each (λ k r. length (committed_of k.durable) ≤ m → length (committed_of r.durable) ≤ m) (λ k p. p) (λ _. omega (arith, here_durable)) w.0
-          (omega (arith, prefix_long (durably n w.0) a.ink (S.ink.each w.0))) in
+          (omega (arith, prefix_long (durably n w.0) a.committed (S.committed.each w.0))) in
           omega (arith, l, ap length w.1)
     ]
 
@@ -263,8 +258,8 @@ module _ {every every' : List PlainEntry} (n n' : Net) (I : Holds every n) (I' :
           alone = alone (inl (grows ([], same)));
           now = part_same a b (a.now i) (b.now i) (histories n i) (histories n' i) (S.now i) (T.now i) same;
           synced = part_same a b (a.now i) (b.synced i) (histories n i) (durables n' i) (S.now i) (T.synced i) all;
-          ink = ink_more;
-          as_far = omega (arith, no_further, prefix_long a.ink b.ink ink_more, prefix_long (durably n' i) b.ink (T.ink.each i), here_durable);
+          committed = more_committed;
+          as_far = omega (arith, no_further, prefix_long a.committed b.committed more_committed, prefix_long (durably n' i) b.committed (T.committed.each i), here_durable);
           whole =
-              longest_same (so_far n') (so_far n) (at_each (λ k r. committed_of (history_of r) ≡ committed_of (history_of k)) (λ k. refl) (ap committed_of same)) (line b) (line a) T.line S.line;
+              longest_same (so_far n') (so_far n) (at_each (λ k r. committed_of (history_of r) ≡ committed_of (history_of k)) (λ k. refl) (ap committed_of same)) (list b) (list a) T.list S.list;
         }

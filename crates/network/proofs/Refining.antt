@@ -11,6 +11,7 @@ use Rattle.network.specs.Net.{Commits, Crashes, Damaged, Event, Makes, MakesFor,
 use Rattle.network.specs.Promise.{Always}
 use Rattle.network.specs.Refinement.{Refines, RunsAreSteps, Shows}
 use Rattle.network.specs.Replicas.{entries_of, tentative_in}
+use Rattle.network.proofs.AbstractReached.{steps_trans}
 use Rattle.network.proofs.AbstractShows.{page_of, shows}
 use Rattle.network.proofs.AbstractSteps as pages
 use Rattle.network.proofs.Alone.{commit_step, crash_step, make-step, sync_step}
@@ -37,15 +38,11 @@ put_there i x f j q = rw (ne_eqb j i q) refl
 abbrev Goes : Page → Net → Type 0
 Goes a n = (b : Page) × Steps a b × Shows n b
 
-steps_trans : (a b c : Page) → Steps a b → Steps b c → Steps a c
-steps_trans a b c p none = p
-steps_trans a b c p (then {b = d} q s) = then (steps_trans a b d p q) s
-
 -- nets with the same huts are shown by the same pages
 shows_as : (n m : Net) (a : Page) → ((j : ℕ) → n.hut j ≡ m.hut j) → Shows n a → Shows m a
 shows_as n m a same S =
     subst (λ (h : ℕ → Kept). Shows (record { hut = h; sent = m.sent; guest = m.guest }) a) (λ t. λ j. same j t)
-    (record { now = S.now; synced = S.synced; line = S.line; ink = S.ink; knew = S.knew })
+    (record { now = S.now; synced = S.synced; list = S.list; committed = S.committed; knew = S.knew })
 
 goes_as : (n m : Net) (a : Page) → ((j : ℕ) → n.hut j ≡ m.hut j) → Goes a n → Goes a m
 goes_as n m a same g = (g.0, g.1, shows_as n m g.0 same g.2)
@@ -189,8 +186,8 @@ start_shows =
     record {
       now = λ i. record { count = refl; set = (λ k m. m, λ k m. m); log = refl };
       synced = λ i. record { count = refl; set = (λ k m. m, λ k m. m); log = refl };
-      line = record { each = λ i. prefix_self []; one = inl refl };
-      ink = record { each = λ i. prefix_self []; one = inl refl };
+      list = record { each = λ i. prefix_self []; one = inl refl };
+      committed = record { each = λ i. prefix_self []; one = inl refl };
       knew = λ e older made. absurd (front_not_nil (Tentative e) made.0 older made.1);
     }
 

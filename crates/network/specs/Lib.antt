@@ -1,4 +1,5 @@
 pub mod Abstract
+pub mod AbstractLaws
 pub mod Acts
 pub mod Cases
 pub mod Casts

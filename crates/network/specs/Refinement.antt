@@ -5,7 +5,7 @@ use Rattle.bookings.specs.Books.{book_of}
 use Rattle.bookings.specs.Plain.{PlainEntry, PlainMark}
 use Rattle.journal.specs.History.{PlainRecord, history_of, log_of, state_in}
 use Rattle.entry_log.specs.Logs.{has}
-use Rattle.network.specs.Abstract.{SameSet, Part, Page, Reached, Steps, log, line}
+use Rattle.network.specs.Abstract.{SameSet, Part, Page, Reached, Steps, Within, log, list}
 use Rattle.network.specs.Net.{Net, Event, after, run}
 use Rattle.network.specs.Promise.{Prefix, MadeAfter}
 use Rattle.network.specs.Replicas.{committed_of, entries_of, committed_in, entries_in}
@@ -14,7 +14,7 @@ use Rattle.network.specs.Replicas.{committed_of, entries_of, committed_in, entri
 pub record Draws (a : Page) (rs : List PlainRecord) (p : Part) : Type 0 where
   pub count : p.count ≡ length (committed_of rs)
   pub set : SameSet p.set (entries_of rs)
-  pub log : log_of rs ≡ log (line a) p
+  pub log : log_of rs ≡ log (list a) p
 
 -- the longest of some lists, each of which is a beginning of it
 pub record Longest (lists : ℕ → List PlainEntry) (l : List PlainEntry) : Type 0 where
@@ -25,8 +25,8 @@ pub record Longest (lists : ℕ → List PlainEntry) (l : List PlainEntry) : Typ
 pub record Shows (n : Net) (a : Page) : Type 0 where
   pub now : (i : ℕ) → Draws a (history_of (n.hut i)) (a.now i)
   pub synced : (i : ℕ) → Draws a (n.hut i).durable (a.synced i)
-  pub line : Longest (λ i. committed_in (n.hut i)) (line a)
-  pub ink : Longest (λ i. committed_of (n.hut i).durable) a.ink
+  pub list : Longest (λ i. committed_in (n.hut i)) (list a)
+  pub committed : Longest (λ i. committed_of (n.hut i).durable) a.committed
   pub knew : (e : PlainEntry) (older : List PlainRecord) → MadeAfter n e older → SameSet (a.knew e.mark) (entries_of older)
 
 -- LAW: every run of the network is a run of the page.
@@ -55,8 +55,9 @@ pub record Ordered (n : Net) : Type 0 where
 abbrev pub PageGives : Type 0
 PageGives = (n : Net) (a : Page) → Reached a → Shows n a → Ordered n
 
--- LAW: and whatever nets are, if steps lead from a page that shows the one to a page that shows the other, what was committed for good stays: `Final`.
+-- LAW: and whatever nets are, if steps lead from a page that shows the one to a page that shows the other, nothing durable is lost: what is committed
+-- changes at its end alone, and what is known is known: `Final` and `KnownStays`.
 abbrev pub PageKeeps : Type 0
 PageKeeps =
     (n m : Net) (a b : Page) → Reached a → Shows n a → Steps a b → Shows m b
-    → (i : ℕ) → Prefix (committed_of (n.hut i).durable) (committed_of (m.hut i).durable)
+    → (i : ℕ) → Prefix (committed_of (n.hut i).durable) (committed_of (m.hut i).durable) × Within (entries_of (n.hut i).durable) (entries_in (m.hut i))

@@ -1,5 +1,5 @@
 // The laws of the network: each function's contract is a law.
-ghost use Rattle.network.specs.Abstract.{AbstractCausal, AbstractFinal, AbstractGaps, AbstractPrefix, AbstractSame, AbstractSound};
+ghost use Rattle.network.specs.AbstractLaws.{AbstractCausal, AbstractFinal, AbstractGaps, AbstractPrefix, AbstractSame, AbstractSound};
 ghost use Rattle.network.specs.Cases.{SixCases, SixCasesPlayed};
 ghost use Rattle.network.specs.Days.{DayOf, Happens, DaysStay, TimedAgree, TimedIsRun};
 ghost use Rattle.network.specs.Harm.{NoLetterHarms};
