@@ -13,6 +13,11 @@ prefix_long a b p = omega (arith, ap length p.1, length-append a p.0)
 pub prefix_both : (a b : List PlainEntry) → Prefix a b → Prefix b a → a ≡ b
 prefix_both a b p q = sym (prefix_full a b p (prefix_long b a q))
 
+-- where two lists in a row are empty, the second is
+pub nil_end : (s t : List PlainEntry) → s ++ t ≡ [] → t ≡ []
+nil_end [] t q = q
+nil_end (e ∷ s) t q = absurd (omega (arith, ap length q))
+
 by_end : (l : List PlainEntry) → (l ≡ []) ⊎ ((front : List PlainEntry) × (e : PlainEntry) × (l ≡ front ++ e ∷ []))
 by_end [] = inl refl
 by_end (x ∷ l) = elim (by_end l) [

@@ -6,12 +6,13 @@ use mathlib.Core.List.Memᴰ
 use Rattle.bookings.specs.Plain.{PlainEntry}
 use Rattle.journal.specs.History.{Committed, Kept, PlainRecord, Tentative, history_of}
 use Rattle.entry_log.specs.Logs.{PlainLog}
-use Rattle.network.specs.Abstract.{Alone, Committing, Forgetting, Learning, Making, Page, Part, SamePart, SameSet, Syncing, Unsynced, list}
+use Rattle.network.specs.Abstract.{Alone, Committing, Forgetting, Learning, Making, Page, SamePart, SameSet, Syncing, Unsynced, list}
 use Rattle.network.specs.Net.{Net}
 use Rattle.network.specs.Promise.{MadeAfter, Prefix}
-use Rattle.network.specs.Refinement.{Draws, Shows}
+use Rattle.network.specs.Refinement.{Shows}
 use Rattle.network.specs.Replicas.{committed_of, entries_of, tentative_of}
-use Rattle.network.proofs.AbstractLists.{longest_more, longest_same, prefix_long}
+use Rattle.network.proofs.AbstractLists.{longest_more, longest_same, nil_end, prefix_long}
+use Rattle.network.proofs.AbstractParts.{part_same, set_trans, set_turned}
 use Rattle.network.proofs.AbstractShows.{closed_now, one_mark}
 use Rattle.network.proofs.Growth.{Grows, made_grows}
 use Rattle.network.proofs.Holds.{Holds, durables, durably, histories, huts_of, so_far}
@@ -21,26 +22,6 @@ use Rattle.network.proofs.Marks.{◌∈◌}
 use Rattle.network.proofs.Lists.{by_cons}
 use Rattle.network.proofs.Parts.{Older, committed_older, older_self, prefix_full, prefix_self, prefix_trans}
 use Rattle.network.proofs.Valid.{log_older}
-
-same_set : (s t : List PlainEntry) → s ≡ t → SameSet s t
-same_set s t q = (λ k m. subst (λ (l : List PlainEntry). k ∈ l) q m, λ k m. subst (λ (l : List PlainEntry). k ∈ l) (sym q) m)
-
-pub set_trans : (s t u : List PlainEntry) → SameSet s t → SameSet t u → SameSet s u
-set_trans s t u p q = (λ k m. q.0 k (p.0 k m), λ k m. p.1 k (q.1 k m))
-
-pub set_turned : (s t : List PlainEntry) → SameSet s t → SameSet t s
-set_turned s t p = (p.1, p.0)
-
-nil_end : (s t : List PlainEntry) → s ++ t ≡ [] → t ≡ []
-nil_end [] t q = q
-nil_end (e ∷ s) t q = absurd (omega (arith, ap length q))
-
--- parts that show the same records are the same
-part_same : (a b : Page) (p q : Part) (rs ss : List PlainRecord) → Draws a rs p → Draws b ss q → ss ≡ rs → SamePart q p
-part_same a b p q rs ss d e is = (
-  e.count ∙ ap (λ r. length (committed_of r)) is ∙ sym d.count,
-  set_trans q.set (entries_of ss) p.set e.set (set_trans (entries_of ss) (entries_of rs) p.set (same_set (entries_of ss) (entries_of rs) (ap entries_of is)) (set_turned p.set (entries_of rs) d.set)),
-)
 
 -- both nets are shown, and only hut i differs
 module _ {every every' : List PlainEntry} (n n' : Net) (I : Holds every n) (I' : Holds every' n') (a b : Page) (S : Shows n a) (T : Shows n' b) (i : ℕ)

@@ -3,6 +3,7 @@ pub mod AbstractLaws
 pub mod AbstractLists
 pub mod AbstractLogs
 pub mod AbstractMoves
+pub mod AbstractParts
 pub mod AbstractReached
 pub mod AbstractShows
 pub mod AbstractSteps

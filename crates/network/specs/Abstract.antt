@@ -1,6 +1,8 @@
--- The network on one page: one list that grows at its end, and sets of entries that are closed under what the makers of entries knew.
--- A replica is a number, how much of the list it has, and a set, what it knows. Its log is a function of both: the first so many of the list, and then
--- the rest of the set in the order of marks. No letters, no vectors, no journals: what these do is some of the five steps below.
+-- The network on one page: one list that grows at its end, and sets of entries that are closed
+-- under what the makers of entries knew. A replica is a number, how much of the list it has, and
+-- a set, what it knows. Its log is a function of both: the first so many of the list, and then
+-- the rest of the set in the order of marks. No letters, no vectors, no journals: what these do
+-- is some of the five steps below.
 use Rattle.std.specs.Prelude.{◌≡◌, ◌≢◌, ℕ, suc, max, ◌<◌, ◌≤◌, ◌||◌, cond, ◌⊎◌, List, [], ◌∷◌, ◌++◌, length, take}
 use mathlib.Core.List.{Memᴰ}
 use Rattle.bookings.specs.Plain.{PlainMark, PlainEntry}
@@ -30,8 +32,9 @@ rest cs (e ∷ es) = cond (has e.mark cs || has e.mark es) (rest cs es) (into e 
 abbrev pub log : List PlainEntry → Part → PlainLog
 log l p = record { committed = take p.count l; tentative = rest (take p.count l) p.set }
 
--- `committed` is so for good; `draft` is what the primary has committed behind it and has not synced; `knew m` is what the maker of the entry with mark m
--- knew when making it; each replica has one part now, and has for good the part that it had when it last synced
+-- `committed` is so for good; `draft` is what the primary has committed behind it and has not
+-- synced; `knew m` is what the maker of the entry with mark m knew when making it; each replica
+-- has one part now, and has for good the part that it had when it last synced
 pub record Page : Type 0 where
   pub committed : List PlainEntry
   pub draft : List PlainEntry
@@ -49,7 +52,8 @@ nothing = record { count = 0; set = [] }
 abbrev pub blank : Page
 blank = record { committed = []; draft = []; knew = λ m. []; now = λ i. nothing; synced = λ i. nothing }
 
--- a part is closed: with an entry it has all that its maker knew, and it has the first so many of the list
+-- a part is closed: with an entry it has all that its maker knew, and it has the first so many of
+-- the list
 abbrev pub Closed : Page → Part → Type 0
 Closed a p = ((e : PlainEntry) → Memᴰ e p.set → Within (a.knew e.mark) p.set) × Within (take p.count (list a)) p.set
 
@@ -57,7 +61,8 @@ Closed a p = ((e : PlainEntry) → Memᴰ e p.set → Within (a.knew e.mark) p.s
 abbrev pub Had : Page → Type 0
 Had a = (a.draft ≡ []) ⊎ ((j : ℕ) × ((a.now j).count ≡ length (list a)))
 
--- replica i alone has another part, and what makers knew stays, of each entry that somebody knows before and after
+-- replica i alone has another part, and what makers knew stays, of each entry that somebody knows
+-- before and after
 pub record Alone (i : ℕ) (a b : Page) : Type 0 where
   pub now : (j : ℕ) → j ≢ i → SamePart (b.now j) (a.now j)
   pub synced : (j : ℕ) → j ≢ i → SamePart (b.synced j) (a.synced j)
@@ -88,7 +93,8 @@ pub record Committing (i : ℕ) (e : PlainEntry) (a b : Page) : Type 0 where
   pub set : SameSet (b.now i).set (a.now i).set
   pub draft : b.draft ≡ a.draft ++ e ∷ []
 
--- learn: of what others have for good, so that its part stays closed; and no more of the list than another has for good
+-- learn: of what others have for good, so that its part stays closed; and no more of the list
+-- than another has for good
 pub record Learning (i : ℕ) (a b : Page) : Type 0 where
   pub unsynced : Unsynced i a b
   pub more : Within (a.now i).set (b.now i).set
@@ -98,7 +104,8 @@ pub record Learning (i : ℕ) (a b : Page) : Type 0 where
   pub far : ((b.now i).count ≡ (a.now i).count) ⊎ ((h : ℕ) × ((b.now i).count ≤ (a.synced h).count))
   pub draft : b.draft ≡ a.draft
 
--- sync: it has for good what it has now; the list is committed for good as far as it has it, and stays
+-- sync: it has for good what it has now; the list is committed for good as far as it has it, and
+-- stays
 pub record Syncing (i : ℕ) (a b : Page) : Type 0 where
   pub alone : Alone i a b
   pub now : SamePart (b.now i) (a.now i)
@@ -107,7 +114,8 @@ pub record Syncing (i : ℕ) (a b : Page) : Type 0 where
   pub as_far : length b.committed ≡ max (length a.committed) (a.now i).count
   pub whole : list b ≡ list a
 
--- forget, in a crash: back to a closed part between what it has for good and what it had; what nobody has of the draft then is gone
+-- forget, in a crash: back to a closed part between what it has for good and what it had; what
+-- nobody has of the draft then is gone
 pub record Forgetting (i : ℕ) (a b : Page) : Type 0 where
   pub unsynced : Unsynced i a b
   pub kept : Within (a.synced i).set (b.now i).set

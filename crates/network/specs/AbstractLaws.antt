@@ -6,8 +6,9 @@ use Rattle.entry_log.specs.Logs.{all_of}
 use Rattle.network.specs.Abstract.{Closed, Page, Part, Reached, SamePart, Steps, Within, list, log}
 use Rattle.network.specs.Promise.{Prefix}
 
--- parts are closed, also those for good, which are no more than what is there now; an entry of the list stands behind all that its maker knew, and has a
--- higher stamp; a mark is of one entry; of two entries of one replica, the maker of the second knew the first
+-- parts are closed, also those for good, which are no more than what is there now; an entry of
+-- the list stands behind all that its maker knew, and has a higher stamp; a mark is of one entry;
+-- of two entries of one replica, the maker of the second knew the first
 pub record Sound (a : Page) : Type 0 where
   pub closed : (i : ℕ) → Closed a (a.now i)
   pub lasting : (i : ℕ) → Closed a (a.synced i)
@@ -24,18 +25,21 @@ pub record Sound (a : Page) : Type 0 where
 abbrev pub AbstractSound : Type 0
 AbstractSound = (a : Page) → Reached a → Sound a
 
--- LAW: of what two replicas have as committed, one is the beginning of the other, since both are the first so many of one list. It gives `OneOrder`.
+-- LAW: of what two replicas have as committed, one is the beginning of the other, since both are
+-- the first so many of one list. It gives `OneOrder`.
 abbrev pub AbstractPrefix : Type 0
 AbstractPrefix =
     (l : List PlainEntry) (p q : Part) → Prefix (log l p).committed (log l q).committed ⊎ Prefix (log l q).committed (log l p).committed
 
--- LAW: an entry stands, in every log that has it, behind all that its maker knew. It gives `BehindKnown`.
+-- LAW: an entry stands, in every log that has it, behind all that its maker knew. It gives
+-- `BehindKnown`.
 abbrev pub AbstractCausal : Type 0
 AbstractCausal =
     (a : Page) → Reached a → (i : ℕ) (front back : List PlainEntry) (e : PlainEntry) → all_of (log (list a) (a.now i)) ≡ front ++ e ∷ back
     → Within (a.knew e.mark) front
 
--- LAW: replicas with the same set and as many committed have the same log, since it is a function of both. It gives `SameLog`.
+-- LAW: replicas with the same set and as many committed have the same log, since it is a function
+-- of both. It gives `SameLog`.
 abbrev pub AbstractSame : Type 0
 AbstractSame = (a : Page) → Reached a → (i j : ℕ) → SamePart (a.now i) (a.now j) → log (list a) (a.now i) ≡ log (list a) (a.now j)
 
@@ -51,7 +55,7 @@ pub record Lasts (a b : Page) : Type 0 where
   pub count : (i : ℕ) → (a.synced i).count ≤ (b.synced i).count
   pub set : (i : ℕ) → Within (a.synced i).set (b.synced i).set
 
--- LAW: whatever the steps, what is committed for good changes at its end alone, and a replica loses nothing that it has for good. It gives `Final` and
--- `KnownStays`.
+-- LAW: whatever the steps, what is committed for good changes at its end alone, and a replica
+-- loses nothing that it has for good. It gives `Final` and `KnownStays`.
 abbrev pub AbstractFinal : Type 0
 AbstractFinal = (a b : Page) → Reached a → Steps a b → Lasts a b

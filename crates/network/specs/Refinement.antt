@@ -21,7 +21,8 @@ pub record Longest (lists : ℕ → List PlainEntry) (l : List PlainEntry) : Typ
   pub each : (i : ℕ) → Prefix (lists i) l
   pub one : (l ≡ []) ⊎ ((i : ℕ) × (lists i ≡ l))
 
--- a page shows a net: of each replica what it has and what it has for good; the longest committed list, and the longest that is durable; what makers knew
+-- a page shows a net: of each replica what it has and what it has for good; the longest committed
+-- list, and the longest that is durable; what makers knew
 pub record Shows (n : Net) (a : Page) : Type 0 where
   pub now : (i : ℕ) → Draws a (history_of (n.hut i)) (a.now i)
   pub synced : (i : ℕ) → Draws a (n.hut i).durable (a.synced i)
@@ -33,11 +34,13 @@ pub record Shows (n : Net) (a : Page) : Type 0 where
 abbrev pub Refines : List Event → Type 0
 Refines es = (a : Page) × Reached a × Shows (after es) a
 
--- LAW: from whichever page shows the network, whatever comes is some steps, to a page that shows the network then; so each event is some steps.
+-- LAW: from whichever page shows the network, whatever comes is some steps, to a page that shows
+-- the network then; so each event is some steps.
 abbrev pub RunsAreSteps : List Event → Type 0
 RunsAreSteps es = (later : List Event) (a : Page) → Shows (after es) a → (b : Page) × Steps a b × Shows (run later (after es)) b
 
--- what a page says of a net that it shows, in the words of the laws of the network: `OneOrder`, `BehindKnown`, `NoGaps` and `SameLog`
+-- what a page says of a net that it shows, in the words of the laws of the network: `OneOrder`,
+-- `BehindKnown`, `NoGaps` and `SameLog`
 pub record Ordered (n : Net) : Type 0 where
   pub one_order : (i j : ℕ) → Prefix (committed_in (n.hut i)) (committed_in (n.hut j)) ⊎ Prefix (committed_in (n.hut j)) (committed_in (n.hut i))
   pub behind_known :
@@ -51,12 +54,14 @@ pub record Ordered (n : Net) : Type 0 where
       → length (committed_in (n.hut i)) ≡ length (committed_in (n.hut j))
       → ((state_in (n.hut i)).log ≡ (state_in (n.hut j)).log) × (book_of (entries_in (n.hut i)) ≡ book_of (entries_in (n.hut j)))
 
--- LAW: whatever a net is, if a page that is reached shows it, the laws on order, causes, gaps and agreement hold of it.
+-- LAW: whatever a net is, if a page that is reached shows it, the laws on order, causes, gaps and
+-- agreement hold of it.
 abbrev pub PageGives : Type 0
 PageGives = (n : Net) (a : Page) → Reached a → Shows n a → Ordered n
 
--- LAW: and whatever nets are, if steps lead from a page that shows the one to a page that shows the other, nothing durable is lost: what is committed
--- changes at its end alone, and what is known is known: `Final` and `KnownStays`.
+-- LAW: and whatever nets are, if steps lead from a page that shows the one to a page that shows
+-- the other, nothing durable is lost: what is committed changes at its end alone, and what is
+-- known is known: `Final` and `KnownStays`.
 abbrev pub PageKeeps : Type 0
 PageKeeps =
     (n m : Net) (a b : Page) → Reached a → Shows n a → Steps a b → Shows m b

@@ -166,7 +166,7 @@ pub fn timed_agree()
     ensures { (day_of : DayOf) (es : List Happens) → TimedAgree day_of es }
 {}
 
-// Of every page that steps lead to: a replica's set is closed, and what is committed stands behind all that its maker knew.
+// Of every page that steps lead to: each set is closed, and an entry of the list stands behind all that its maker knew.
 pub fn abstract_sound()
     ensures { AbstractSound }
 {}
@@ -191,7 +191,7 @@ pub fn abstract_gaps()
     ensures { AbstractGaps }
 {}
 
-// Of a page: no step changes what is committed for good but at its end. It gives `final_stays`.
+// Of a page: nothing that is for good is lost, and what is committed changes at its end alone. It gives `final_stays`, `known_stays`.
 pub fn abstract_final()
     ensures { AbstractFinal }
 {}
@@ -211,7 +211,7 @@ pub fn page_gives()
     ensures { PageGives }
 {}
 
-// What is committed for good in a net that a page shows stays by every step: `final_stays`, from the page alone.
+// By steps of a page nothing durable is lost in the nets that it shows: `final_stays` and `known_stays`, from the page alone.
 pub fn page_keeps()
     ensures { PageKeeps }
 {}
