@@ -16,6 +16,10 @@ pub mod Knowing
 pub mod Lacking
 pub mod Leading
 pub mod Leaving
+pub mod Late
+pub mod LateLetters
+pub mod LateRuns
+pub mod LateWhole
 mod Lettered
 pub mod Letters
 pub mod Lists
@@ -23,6 +27,7 @@ pub mod Logs
 pub mod Mailed
 pub mod Marks
 pub mod Missing
+pub mod Moves
 pub mod Next
 pub mod NextSettled
 pub mod NextWaiting
@@ -49,5 +54,8 @@ mod TakingOn
 pub mod Tests
 pub mod Valid
 pub mod Walk
+pub mod WalksAgree
+pub mod WalksBring
+pub mod WalksSettle
 pub mod Whole
 pub mod Writing

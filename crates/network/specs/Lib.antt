@@ -4,6 +4,7 @@ pub mod Casts
 pub mod Days
 pub mod Harm
 pub mod Items
+pub mod Late
 pub mod Mail
 pub mod Net
 pub mod Promise
@@ -14,3 +15,4 @@ pub mod Slips
 pub mod Stages
 pub mod Stands
 pub mod Taking
+pub mod Walks

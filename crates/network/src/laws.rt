@@ -2,10 +2,12 @@
 ghost use Rattle.network.specs.Cases.{SixCases, SixCasesPlayed};
 ghost use Rattle.network.specs.Days.{DayOf, Happens, DaysStay, TimedAgree, TimedIsRun};
 ghost use Rattle.network.specs.Harm.{NoLetterHarms};
+ghost use Rattle.network.specs.Late.{LateLetterBrings};
 ghost use Rattle.network.specs.Mail.{Mailed};
 ghost use Rattle.network.specs.Promise.{Always, OneOrder, OnePrimary, PrimaryLeads, Final, HandedOnStays, SameLog, OnceEach, BehindKnown, NamedBefore, CancelledHoldsNothing, NoGaps, VectorsSay, KnownStays, KnownWhenWritten, StoodSays, GuestsKeep, SlipsSay, LettersBring, TakenWhole, LettersNeeded, CanAgree};
 ghost use Rattle.network.specs.Promised.{Promised};
 ghost use Rattle.network.specs.Slips.{CoveredStays, ServedStays, BehindCovered};
+ghost use Rattle.network.specs.Walks.{AnyWalksAgree, WalksBring};
 ghost use Rattle.std.specs.Prelude.{List};
 
 // Of what two replicas have as committed, one is the beginning of the other.
@@ -121,6 +123,21 @@ pub fn taken_whole()
 // Each letter brings the next 1,024 items of all that is lacking.
 pub fn letters_needed()
     ensures { Always LettersNeeded }
+{}
+
+// A letter that was written for what a hut said long ago, and comes late, brings all that is in it.
+pub fn late_letter_brings()
+    ensures { Always LateLetterBrings }
+{}
+
+// Enough walks from one hut to another bring it all that the first knew, whatever other walks there are.
+pub fn walks_bring()
+    ensures { Always WalksBring }
+{}
+
+// Enough walks to the primary, commits there, and walks from it bring all huts to one log, whatever other walks there are.
+pub fn any_walks_agree()
+    ensures { Always AnyWalksAgree }
 {}
 
 // From every state handing on and committing alone can bring all replicas to one log, all of it committed.
