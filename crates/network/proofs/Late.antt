@@ -1,10 +1,9 @@
 -- An item of a letter is there once it was taken, however late: all that is asked is that what stood before it is known.
-use Rattle.std.proofs.Common.{◌≡◌, ℕ, ◌<◌, ◌≤◌, true, T, List, [], ◌∷◌, ◌++◌, length, get_or, None, sym, refl, ap, ◌∙◌, subst, inl, inr, append_assoc, arith, length-append}
+use Rattle.std.proofs.Common.{◌≡◌, ℕ, ◌<◌, ◌≤◌, true, T, List, [], ◌∷◌, ◌++◌, length, get_or, None, sym, ap, ◌∙◌, subst, inl, inr, append_assoc, arith, length-append}
 use mathlib.Core.List.Memᴰ
-use mathlib.Core.List.{Memᴰ}
 use Rattle.std.proofs.lemmas.Bool.{cases_lt}
 use Rattle.bookings.specs.Plain.{PlainEntry}
-use Rattle.journal.specs.History.{Committed, Kept, PlainRecord, Tentative, history_of, state_in, wrote}
+use Rattle.journal.specs.History.{Kept, PlainRecord, Tentative, history_of, state_in}
 use Rattle.entry_log.specs.Logs.{has}
 use Rattle.entry_log.specs.Vectors.{covers}
 use Rattle.entry_log.specs.Waits.{PlainWaiting}

@@ -1,33 +1,25 @@
 -- A letter that comes late brings all that is in it, item for item.
-use Rattle.std.proofs.Common.{◌≡◌, ℕ, zero, suc, ◌+◌, ◌-◌, ◌<◌, ◌≤◌, T, leb, List, [], ◌∷◌, ◌++◌, map, length, get_or, take, drop, sym, refl, ap, ◌∙◌, subst, inl, inr, arith, length-append, length-drop, length-take, leb→le}
-use mathlib.Core.List.Memᴰ
+use Rattle.std.proofs.Common.{ℕ, zero, suc, ◌+◌, ◌<◌, ◌≤◌, leb, List, [], ◌∷◌, ◌++◌, map, length, get_or, take, sym, refl, subst, arith, leb→le}
 use mathlib.Core.List.{Memᴰ}
-use Rattle.std.proofs.lemmas.Bool.{cases_lt}
 use Rattle.bookings.specs.Plain.{PlainEntry}
-use Rattle.journal.specs.History.{Kept, PlainRecord, history_of, state_in}
-use Rattle.entry_log.proofs.Stamps.{vector_at}
+use Rattle.journal.specs.History.{Kept}
 use Rattle.entry_log.specs.Vectors.{vector_of}
 use Rattle.entry_log.specs.Waits.{PlainWaiting}
 use Rattle.replica.specs.Model.{capacity}
-use Rattle.replica.specs.Parcels.{missing, parcel_of}
+use Rattle.replica.specs.Parcels.{missing}
 use Rattle.letters.specs.Items.{PlainItem, placed_from, settled, waiting}
-use Rattle.network.specs.Items.{Letter, items_taken, takes, words_for}
+use Rattle.network.specs.Items.{Letter, items_taken, takes}
 use Rattle.network.specs.Late.{HasItem}
 use Rattle.network.specs.Net.{Net, with_hut}
-use Rattle.network.specs.Replicas.{committed_in, committed_of, entries_in, entries_of, tentative_of}
-use Rattle.network.proofs.Holds.{Becomes, Holds, Said, durables, histories, huts_of, same_step, so_far}
-use Rattle.network.proofs.Knowing.{known_number, known_then, made-own}
-use Rattle.network.proofs.Late.{On, Ready, item_had_at, on_by, on_has, takes_older}
-use Rattle.network.proofs.Lists.{by_append, by_cons, by_last, none_in}
+use Rattle.network.specs.Replicas.{committed_in, entries_in}
+use Rattle.network.proofs.Holds.{Becomes, Said, durables}
+use Rattle.network.proofs.Late.{item_had_at, on_by, on_has, takes_older}
+use Rattle.network.proofs.Lists.{by_cons, by_last, none_in}
 use Rattle.network.proofs.Marks.{◌∈◌, ◌⊆◌}
-use Rattle.network.proofs.Numbers.{covers_known, highest_more}
-use Rattle.network.proofs.Parts.{Older, committed_older, older_trans, prefix_either, prefix_full, prefix_self, prefix_trans}
-use Rattle.network.proofs.Safety.{order_in}
+use Rattle.network.proofs.Numbers.{covers_known}
 use Rattle.network.proofs.Taken.{take_all_older}
 use Rattle.network.proofs.Taking.{take_all-step, takes_on}
 use Rattle.network.proofs.Tests.{cond_by}
-use Rattle.network.proofs.Valid.{log_older}
-use Rattle.network.proofs.Whole.{hut_self}
 
 -- what a letter says is there once it was taken
 abbrev pub Brought : Letter → Kept → Type 0

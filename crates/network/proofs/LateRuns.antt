@@ -1,17 +1,17 @@
 -- Whatever comes between: what a hut says, the letter that is written for it, and the letter's coming.
-use Rattle.std.proofs.Common.{◌≡◌, ℕ, zero, suc, ◌+◌, ◌<◌, ◌≤◌, ltb, eqb, List, [], ◌∷◌, ◌++◌, length, Some, None, Option, sym, refl, ap, ◌∙◌, subst, append_assoc, append-nil, arith, lt→ltb}
+use Rattle.std.proofs.Common.{◌≡◌, ℕ, ◌+◌, ◌<◌, ◌≤◌, ltb, eqb, List, [], ◌∷◌, ◌++◌, length, Some, None, Option, sym, refl, ap, ◌∙◌, subst, append_assoc, append-nil, arith, lt→ltb}
 use mathlib.Core.List.{Memᴰ}
 use lib.Dec.{eqb_refl}
 use Rattle.bookings.specs.Plain.{PlainEntry}
-use Rattle.journal.specs.History.{Kept, PlainRecord, history_of, makes, state_in, synced}
+use Rattle.journal.specs.History.{Kept, PlainRecord, history_of, state_in, synced}
 use Rattle.letters.specs.Items.{PlainItem}
-use Rattle.replica.specs.Model.{capacity, entry_made, make_refusal}
+use Rattle.replica.specs.Model.{capacity, make_refusal}
 use Rattle.network.specs.Items.{Letter, items_taken, words_for}
 use Rattle.network.specs.Late.{HasItem, LateLetterBrings, before_letter, late_letter, letter_taken, letter_written, said_by}
-use Rattle.network.specs.Net.{Commits, Crashes, Damaged, Event, Makes, MakesFor, Net, Syncs, Takes, TakesBut, Visits, Writes, after, among, gives, huts, run, send, served, shown, step, take_nth, unless_refused, with_guest, with_hut}
+use Rattle.network.specs.Net.{Commits, Crashes, Damaged, Event, Makes, MakesFor, Net, Syncs, Takes, TakesBut, Visits, Writes, after, among, huts, run, send, served, step, take_nth, unless_refused, with_hut}
 use Rattle.network.specs.Promise.{Always, makings}
 use Rattle.network.specs.Replicas.{committed_in, vector_in}
-use Rattle.network.proofs.Holds.{Becomes, Holds, durables, histories}
+use Rattle.network.proofs.Holds.{Becomes, durables, histories}
 use Rattle.network.proofs.LateWhole.{letter-brought}
 use Rattle.network.proofs.Lists.{stands}
 use Rattle.network.proofs.Parts.{Older, older_self, older_trans}

@@ -9,7 +9,7 @@ use Rattle.entry_log.proofs.Stamps.{vector_at}
 use Rattle.entry_log.specs.Vectors.{vector_of}
 use Rattle.replica.specs.Model.{capacity}
 use Rattle.replica.specs.Parcels.{missing, parcel_of}
-use Rattle.letters.specs.Items.{PlainItem, placed_from, waiting}
+use Rattle.letters.specs.Items.{placed_from, waiting}
 use Rattle.network.specs.Items.{Letter, items_taken, takes, words_for}
 use Rattle.network.specs.Late.{HasItem}
 use Rattle.network.specs.Net.{Net, with_hut}

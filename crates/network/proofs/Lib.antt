@@ -2,6 +2,7 @@ pub mod Agree
 pub mod Alone
 mod Cases
 pub mod Exchange
+pub mod Fair
 pub mod Fetch
 pub mod Gather
 pub mod Growth
@@ -16,6 +17,7 @@ pub mod Knowing
 pub mod Lacking
 pub mod Leading
 pub mod Leaving
+pub mod Lasting
 pub mod Late
 pub mod LateLetters
 pub mod LateRuns

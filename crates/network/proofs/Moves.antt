@@ -1,32 +1,29 @@
 -- Walks and commits lose nothing, and bring nothing that was not known somewhere.
-use Rattle.std.proofs.Common.{◌≡◌, ℕ, ◌+◌, ◌<◌, ◌≤◌, ltb, List, [], ◌∷◌, ◌++◌, length, Some, None, Option, sym, refl, ap, subst, inl, inr, arith}
+use Rattle.std.proofs.Common.{◌≡◌, ℕ, ltb, List, [], ◌∷◌, length, Some, None, Option, sym, refl, subst, inl, inr}
 use mathlib.Core.List.Memᴰ
 use mathlib.Core.List.{Memᴰ}
 use Rattle.bookings.specs.Plain.{PlainEntry}
-use Rattle.journal.specs.History.{Committed, Kept, PlainRecord, commits, commits_entry, history_of, state_in, synced}
+use Rattle.journal.specs.History.{Committed, Kept, commits, commits_entry, history_of, state_in, synced}
 use Rattle.entry_log.specs.Logs.{first_entry}
 use Rattle.letters.specs.Items.{PlainItem, settled, waiting}
 use Rattle.replica.specs.Model.{is_primary}
-use Rattle.network.specs.Items.{Letter}
-use Rattle.network.specs.Net.{Commits, Net, Takes, Writes, among, huts, step, take_nth, with_hut}
+use Rattle.network.specs.Lasting.{Somewhere, entry_in}
+use Rattle.network.specs.Net.{Commits, Net, Takes, Writes, among, huts, step, with_hut}
 use Rattle.network.specs.Promise.{exchange}
-use Rattle.network.specs.Replicas.{committed_in, committed_of, entries_in, entries_of, tentative_in, tentative_of, vector_in}
-use Rattle.network.specs.Walks.{Commit, Move, Somewhere, Walk, move, moved}
+use Rattle.network.specs.Replicas.{committed_in, entries_in, entries_of, tentative_in, vector_in}
+use Rattle.network.specs.Walks.{Commit, Move, Walk, move, moved}
 use Rattle.network.proofs.Exchange.{exchange_becomes}
-use Rattle.network.proofs.Growth.{made_grows}
-use Rattle.network.proofs.Holds.{Becomes, Holds, Said, becomes_trans, durables, histories, huts_of, stays}
-use Rattle.network.proofs.Knowing.{maker_knows}
+use Rattle.network.proofs.Holds.{Becomes, Holds, becomes_trans, histories, stays}
+use Rattle.network.proofs.Lasting.{said_known}
 use Rattle.network.proofs.Leading.{put_all}
 use Rattle.network.proofs.Letters.{in_item}
-use Rattle.network.proofs.Lists.{stands}
 use Rattle.network.proofs.Logs.{log_only}
-use Rattle.network.proofs.Marks.{◌∈◌, ◌⊆◌}
-use Rattle.network.proofs.Parts.{Older, committed_older, older_one, older_self, older_trans}
+use Rattle.network.proofs.Marks.{◌∈◌}
+use Rattle.network.proofs.Parts.{Older, older_one, older_self, older_trans}
 use Rattle.network.proofs.Steps.{step_becomes}
 use Rattle.network.proofs.Taken.{take_all_all, take_all_older}
 use Rattle.network.proofs.Taking.{take_nth_all}
 use Rattle.network.proofs.Tests.{cond_by}
-use Rattle.network.proofs.Valid.{log_older}
 
 -- what holds of a net after every list of events is kept
 pub move_becomes : {every : List PlainEntry} (m : Move) (n : Net) → Holds every n → Becomes every n (move m n)
@@ -85,12 +82,10 @@ commits_known n i k =
       | inr o ↦ (i, o)
     ]
 
-said_known : {every : List PlainEntry} (n : Net) → Holds every n → (w : PlainItem) → Said (durables n) w → Somewhere n (in_item w)
-said_known n I (waiting w) s = (w.entry.mark.hut, maker_knows (huts_of n I) w.entry s.0 (made_grows (durables n) (histories n) (huts_of n I).part w.entry s.0 s.1))
-said_known n I (settled p e) s =
-    let first = committed_older (durables n s.0) (histories n s.0) ((huts_of n I).part s.0) in
-    let there = subst (λ (l : List PlainEntry). e ∈ l) (sym s.1.2) (stands e s.1.0 s.1.1) in
-    (s.0, Memᴰ.append_left (tentative_of (histories n s.0)) (subst (λ (l : List PlainEntry). e ∈ l) (sym first.1) (Memᴰ.append_left first.0 there)))
+-- the entry of an item is that of its record
+item_entry : (w : PlainItem) → entry_in w ≡ in_item w
+item_entry (settled p e) = refl
+item_entry (waiting w) = refl
 
 takes_keeps : (n : Net) (j nth : ℕ) → Keeps n (step (Takes j nth) n)
 takes_keeps n j nth =
@@ -100,7 +95,7 @@ takes_knows : {every : List PlainEntry} (n : Net) → Holds every n → (j nth :
 takes_knows n I j nth =
     knows_among n j _ (knows_hut n j _
     (take_nth_all (λ y. (k : PlainEntry) → k ∈ entries_in y → Somewhere n k) nth n.sent (n.hut j) (λ k d. (j, d))
-    (λ l m. take_all_all (Somewhere n) l (n.hut j) (λ w d. said_known n I w (I.said l m w d)) (λ k d. (j, d)))))
+    (λ l m. take_all_all (Somewhere n) l (n.hut j) (λ w d. subst (Somewhere n) (item_entry w) (said_known n I w (I.said l m w d))) (λ k d. (j, d)))))
 
 -- a letter is written
 writes_keeps : (n : Net) (i count : ℕ) (has : List ℕ) → Keeps n (step (Writes i count has) n)

@@ -3,10 +3,15 @@ use Rattle.network.specs.Promise.{Always}
 use Rattle.network.specs.Promised.{Promised}
 use Rattle.network.proofs.Agree.{can_agree}
 use Rattle.network.proofs.Exchange.{letters_needed}
+use Rattle.network.proofs.Fair.{fair_agree, zero_keeps_lead}
 use Rattle.network.proofs.Handed.{handed_on_stays}
+use Rattle.network.proofs.Lasting.{lasting_known}
+use Rattle.network.proofs.LateRuns.{late_letter_brings}
 use Rattle.network.proofs.Safety.{behind_known, cancelled-holds-nothing, final, guests_keep, known_stays, known_when_written, named_before, no_gaps, once_each, one_order, one_primary, primary_leads, slips_say, stood_says, vectors_say}
 use Rattle.network.proofs.Same.{same_log}
 use Rattle.network.proofs.Slipping.{behind_covered, covered_stays, served_stays}
+use Rattle.network.proofs.WalksAgree.{any_walks_agree}
+use Rattle.network.proofs.WalksBring.{walks_bring}
 use Rattle.network.proofs.Whole.{letters_bring, taken-whole}
 
 pub promised : Always Promised
@@ -36,4 +41,10 @@ promised es =
       taken-whole = taken-whole es;
       letters_needed = letters_needed es;
       can_agree = can_agree es;
+      lasting_known = lasting_known es;
+      late_letter_brings = late_letter_brings es;
+      walks_bring = walks_bring es;
+      any_walks_agree = any_walks_agree es;
+      fair_agree = fair_agree es;
+      zero_keeps_lead = zero_keeps_lead es;
     }

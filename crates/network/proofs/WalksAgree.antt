@@ -1,16 +1,17 @@
 -- Enough walks to the primary, enough commits there, and enough walks from it bring all huts to one log, whatever other walks there are.
-use Rattle.std.proofs.Common.{◌≡◌, ◌≢◌, ℕ, ◌*◌, ◌<◌, ◌≤◌, T, eqb, List, [], ◌∷◌, ◌++◌, length, sym, refl, ap, ◌∙◌, subst, arith}
+use Rattle.std.proofs.Common.{◌≡◌, ◌≢◌, ℕ, ◌*◌, ◌<◌, ◌≤◌, T, eqb, List, [], ◌∷◌, ◌++◌, length, sym, refl, ◌∙◌, subst, arith}
 use mathlib.Core.List.Memᴰ
-use mathlib.Core.List.{Memᴰ}
 use lib.Dec.{eqb_refl}
 use Rattle.bookings.specs.Plain.{PlainEntry}
 use Rattle.replica.specs.Model.{capacity}
+use Rattle.network.specs.Lasting.{Somewhere}
 use Rattle.network.specs.Net.{Net, after, huts}
 use Rattle.network.specs.Promise.{Always}
 use Rattle.network.specs.Replicas.{committed_of, entries_of, tentative_of}
-use Rattle.network.specs.Walks.{AllAgree, AnyWalksAgree, KeepsLead, Move, Somewhere, move, moved, tries, walks}
+use Rattle.network.specs.Walks.{AnyWalksAgree, KeepsLead, Move, move, moved, tries, walks}
 use Rattle.network.proofs.Histories.{committed_once}
 use Rattle.network.proofs.Holds.{Holds, durables, histories}
+use Rattle.network.proofs.Lasting.{lasting_known}
 use Rattle.network.proofs.Marks.{◌∈◌}
 use Rattle.network.proofs.Moves.{moved_becomes, moved_older, moved_only}
 use Rattle.network.proofs.Safety.{after_holds, made-few}
@@ -26,7 +27,13 @@ unfolding moved
 moved_append [] b n = refl
 moved_append (m ∷ a) b n = moved_append a b (move m n)
 
-other : (i c : ℕ) → Apart i c → i ≢ c
+-- all agree with hut c, which has all that was known
+abbrev pub Gathered : Net → Net → ℕ → Type 0
+Gathered was n c =
+    ((i : ℕ) → i < huts → (tentative_of (histories n i) ≡ []) × (committed_of (histories n i) ≡ committed_of (histories n c)))
+    × ((k : PlainEntry) → Somewhere was k → k ∈ committed_of (histories n c))
+
+pub other : (i c : ℕ) → Apart i c → i ≢ c
 other i c apart p = apart (subst (λ (x : ℕ). T (eqb i x)) p (eqb_refl i))
 
 module _ {every : List PlainEntry} (few : length every < capacity) (count : ℕ) (much : 2 * length every < count * 1024) (c : ℕ) (low : c < huts) where
@@ -65,9 +72,9 @@ module _ {every : List PlainEntry} (few : length every < capacity) (count : ℕ)
   pub agree_by :
       (n : Net) → Holds every n → KeepsLead n c → (first second third : List Move) → ((i : ℕ) → i < huts → i ≢ c → count ≤ walks i c first)
       → length (tentative_of (histories (moved first n) c)) ≤ tries c second → ((i : ℕ) → i < huts → i ≢ c → count ≤ walks c i third)
-      → AllAgree n (moved (first ++ (second ++ third)) n) c
+      → Gathered n (moved (first ++ (second ++ third)) n) c
   agree_by n I lead first second third f s t =
-      subst (λ (m : Net). AllAgree n m c) (sym (moved_append first (second ++ third) n ∙ moved_append second third n1)) (handed-out third t n2 I2 settled, known)
+      subst (λ (m : Net). Gathered n m c) (sym (moved_append first (second ++ third) n ∙ moved_append second third n1)) (handed-out third t n2 I2 settled, known)
     where
       n1 : Net
       n1 = moved first n
@@ -101,4 +108,5 @@ module _ {every : List PlainEntry} (few : length every < capacity) (count : ℕ)
 
 pub any_walks_agree : Always AnyWalksAgree
 any_walks_agree es few count much c low lead first second third f s t =
-    agree_by (made_fewer es few) count (omega (arith, much, made-few es)) c low (after es) (after_holds es) lead first second third f s t
+    let g = agree_by (made_fewer es few) count (omega (arith, much, made-few es)) c low (after es) (after_holds es) lead first second third f s t in
+    (g.0, λ k l. g.1 k (lasting_known es k l))

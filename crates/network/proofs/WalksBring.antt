@@ -1,12 +1,11 @@
 -- Among enough walks from one hut to another, one brings all that is lacking, or each brings 1,024 records, for which there is no room.
-use Rattle.std.proofs.Common.{◌≡◌, ℕ, zero, suc, ◌+◌, ◌*◌, ◌<◌, ◌≤◌, ◌⊎◌, ◌&&◌, Bool, true, false, cond, T, eqb, eqb→eq, List, [], ◌∷◌, ◌++◌, length, drop, take, None, sym, refl, ap, ◌∙◌, subst, inl, inr, arith, length-append, length-take}
-use mathlib.Core.List.{Memᴰ}
+use Rattle.std.proofs.Common.{◌≡◌, ℕ, suc, ◌+◌, ◌*◌, ◌<◌, ◌≤◌, ◌⊎◌, ◌&&◌, Bool, true, false, cond, eqb, eqb→eq, List, [], ◌∷◌, length, sym, ap, ◌∙◌, subst, inl, inr, arith, length-append, length-take}
 use Rattle.std.proofs.lemmas.Bool.{cases_lt}
 use Rattle.std.proofs.lemmas.List.{drop_all}
 use Rattle.bookings.specs.Plain.{PlainEntry}
-use Rattle.journal.specs.History.{Committed, Kept, PlainRecord, Tentative, history_of, state_in, wrote}
+use Rattle.journal.specs.History.{Committed, Kept, PlainRecord, Tentative, history_of}
 use Rattle.replica.specs.Model.{capacity}
-use Rattle.network.specs.Items.{Letter, items_taken, record_of, refusal_of, takes}
+use Rattle.network.specs.Items.{Letter, items_taken, takes}
 use Rattle.network.specs.Net.{Net, after, huts}
 use Rattle.network.specs.Promise.{AllTaken, Always, exchange, lacking, letter_to}
 use Rattle.network.specs.Replicas.{committed_in, committed_of, entries_of, tentative_of, vector_in}
@@ -22,7 +21,7 @@ use Rattle.network.proofs.Moves.{move_becomes, move_older, moved_becomes, moved_
 use Rattle.network.proofs.Next.{next}
 use Rattle.network.proofs.Parts.{Older, committed_older, older_self, older_trans}
 use Rattle.network.proofs.Room.{known_own, once_log}
-use Rattle.network.proofs.Safety.{after_holds, entries_made, made-few}
+use Rattle.network.proofs.Safety.{after_holds, made-few}
 use Rattle.network.proofs.Sorting.{no_more}
 use Rattle.network.proofs.Taken.{takes-taken}
 use Rattle.network.proofs.Tests.{Apart, and_has, apart_turned, by_same, cond_by}

@@ -3,11 +3,12 @@ use Rattle.std.proofs.Common.{◌≡◌, ℕ, suc, ◌+◌, ◌<◌, ◌≤◌, 
 use mathlib.Core.List.Memᴰ
 use mathlib.Core.List.{Memᴰ}
 use Rattle.bookings.specs.Plain.{PlainEntry}
-use Rattle.journal.specs.History.{Committed, Kept, PlainRecord, commits, history_of}
+use Rattle.journal.specs.History.{Committed, PlainRecord, commits, history_of}
 use Rattle.replica.specs.Model.{leader}
+use Rattle.network.specs.Lasting.{Somewhere}
 use Rattle.network.specs.Net.{Commits, Net, huts, step, with_hut}
 use Rattle.network.specs.Replicas.{committed_in, committed_of, entries_of, tentative_of}
-use Rattle.network.specs.Walks.{Commit, KeepsLead, Move, Somewhere, Walk, move, moved, tries}
+use Rattle.network.specs.Walks.{Commit, KeepsLead, Move, Walk, move, moved, tries}
 use Rattle.network.proofs.Histories.{apart, committed_once}
 use Rattle.network.proofs.Holds.{Holds, durables, histories, huts_of}
 use Rattle.network.proofs.Knowing.{known_here, made-own, maker_knows}

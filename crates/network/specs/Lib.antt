@@ -4,6 +4,7 @@ pub mod Casts
 pub mod Days
 pub mod Harm
 pub mod Items
+pub mod Lasting
 pub mod Late
 pub mod Mail
 pub mod Net

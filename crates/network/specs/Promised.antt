@@ -1,8 +1,11 @@
 -- All laws of the network at once.
 use Rattle.std.specs.Prelude.{List}
+use Rattle.network.specs.Lasting.{LastingKnown}
+use Rattle.network.specs.Late.{LateLetterBrings}
 use Rattle.network.specs.Net.{Event}
 use Rattle.network.specs.Promise.{OneOrder, OnePrimary, PrimaryLeads, Final, HandedOnStays, SameLog, OnceEach, BehindKnown, NamedBefore, CancelledHoldsNothing, NoGaps, VectorsSay, KnownStays, KnownWhenWritten, StoodSays, GuestsKeep, SlipsSay, LettersBring, TakenWhole, LettersNeeded, CanAgree}
 use Rattle.network.specs.Slips.{CoveredStays, ServedStays, BehindCovered}
+use Rattle.network.specs.Walks.{AnyWalksAgree, FairAgree, WalksBring, ZeroKeepsLead}
 
 pub record Promised (es : List Event) : Type 0 where
   pub one_order : OneOrder es
@@ -29,3 +32,9 @@ pub record Promised (es : List Event) : Type 0 where
   pub taken-whole : TakenWhole es
   pub letters_needed : LettersNeeded es
   pub can_agree : CanAgree es
+  pub lasting_known : LastingKnown es
+  pub late_letter_brings : LateLetterBrings es
+  pub walks_bring : WalksBring es
+  pub any_walks_agree : AnyWalksAgree es
+  pub fair_agree : FairAgree es
+  pub zero_keeps_lead : ZeroKeepsLead es

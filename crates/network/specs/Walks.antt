@@ -3,6 +3,7 @@ use Rattle.std.specs.Prelude.{◌≡◌, ◌≢◌, ℕ, zero, suc, ◌+◌, ◌
 use mathlib.Core.List.{Memᴰ}
 use Rattle.bookings.specs.Plain.{PlainEntry}
 use Rattle.replica.specs.Model.{capacity, leader}
+use Rattle.network.specs.Lasting.{Lasting, Somewhere}
 use Rattle.network.specs.Net.{Net, Event, Commits, after, huts, step}
 use Rattle.network.specs.Promise.{Prefix, exchange, makings}
 use Rattle.network.specs.Replicas.{committed_in, entries_in, tentative_in}
@@ -47,23 +48,23 @@ WalksBring es =
     makings es < capacity → (count : ℕ) → Enough es count → (i j : ℕ) → i < huts → j < huts
     → (ms : List Move) → count ≤ walks i j ms → Brings (after es) i (moved ms (after es)) j
 
--- some hut knows an entry
-abbrev pub Somewhere : Net → PlainEntry → Type 0
-Somewhere n k = (h : ℕ) × Memᴰ k (entries_in (n.hut h))
-
 -- a hut may commit, and still may when any of what is known is committed
 abbrev pub KeepsLead : Net → ℕ → Type 0
 KeepsLead n c =
     (l : List PlainEntry) → Prefix (committed_in (n.hut c)) l → ((k : PlainEntry) → Memᴰ k l → Somewhere n k) → leader l ≡ c
 
--- all huts have what hut c has, all of it committed, and it is all that was known in another net
-abbrev pub AllAgree : Net → Net → ℕ → Type 0
-AllAgree was n c =
+-- LAW: hut 0 is such a hut.
+abbrev pub ZeroKeepsLead : List Event → Type 0
+ZeroKeepsLead es = KeepsLead (after es) 0
+
+-- all huts have what hut c has, all of it committed, with all that lasted before
+abbrev pub AllAgree : List Event → Net → ℕ → Type 0
+AllAgree es n c =
     ((i : ℕ) → i < huts → (tentative_in (n.hut i) ≡ []) × (committed_in (n.hut i) ≡ committed_in (n.hut c)))
-    × ((k : PlainEntry) → Somewhere was k → Memᴰ k (committed_in (n.hut c)))
+    × ((k : PlainEntry) → Lasting es k → Memᴰ k (committed_in (n.hut c)))
 
 -- LAW: enough walks from each hut to the primary, then as many commits as it has tentative entries, then enough walks from it to each hut, with any other
--- walks and commits between them: all huts have one log, all of it committed, with every entry that any had.
+-- walks and commits between them: all huts have one log, all of it committed, with every entry that any had, or that was ever synced or handed on.
 abbrev pub AnyWalksAgree : List Event → Type 0
 AnyWalksAgree es =
     makings es < capacity → (count : ℕ) → Enough es count → (c : ℕ) → c < huts → KeepsLead (after es) c
@@ -71,7 +72,7 @@ AnyWalksAgree es =
     → ((i : ℕ) → i < huts → i ≢ c → count ≤ walks i c first)
     → length (tentative_in ((moved first (after es)).hut c)) ≤ tries c second
     → ((i : ℕ) → i < huts → i ≢ c → count ≤ walks c i third)
-    → AllAgree (after es) (moved (first ++ (second ++ third)) (after es)) c
+    → AllAgree es (moved (first ++ (second ++ third)) (after es)) c
 
 -- moves without end, of which every walk to the primary and from it, and every try of its to commit, comes again and again
 pub record Fair (c : ℕ) (s : ℕ → Move) : Type 0 where
@@ -84,8 +85,9 @@ abbrev pub moves_from : (ℕ → Move) → (time count : ℕ) → List Move
 moves_from s t zero = []
 moves_from s t (suc count) = s t ∷ moves_from s (suc t) count
 
--- LAW: under every fair schedule all huts come to one log, all of it committed, with every entry that any had, and stay so.
+-- LAW: under every fair schedule all huts come to one log, all of it committed, with every entry that any had or that was
+-- ever synced or handed on, and stay so.
 abbrev pub FairAgree : List Event → Type 0
 FairAgree es =
     makings es < capacity → (c : ℕ) → c < huts → KeepsLead (after es) c → (s : ℕ → Move) → Fair c s
-    → (enough : ℕ) × ((later : ℕ) → AllAgree (after es) (moved (moves_from s 0 (enough + later)) (after es)) c)
+    → (enough : ℕ) × ((later : ℕ) → AllAgree es (moved (moves_from s 0 (enough + later)) (after es)) c)

@@ -2,12 +2,13 @@
 ghost use Rattle.network.specs.Cases.{SixCases, SixCasesPlayed};
 ghost use Rattle.network.specs.Days.{DayOf, Happens, DaysStay, TimedAgree, TimedIsRun};
 ghost use Rattle.network.specs.Harm.{NoLetterHarms};
+ghost use Rattle.network.specs.Lasting.{LastingKnown};
 ghost use Rattle.network.specs.Late.{LateLetterBrings};
 ghost use Rattle.network.specs.Mail.{Mailed};
 ghost use Rattle.network.specs.Promise.{Always, OneOrder, OnePrimary, PrimaryLeads, Final, HandedOnStays, SameLog, OnceEach, BehindKnown, NamedBefore, CancelledHoldsNothing, NoGaps, VectorsSay, KnownStays, KnownWhenWritten, StoodSays, GuestsKeep, SlipsSay, LettersBring, TakenWhole, LettersNeeded, CanAgree};
 ghost use Rattle.network.specs.Promised.{Promised};
 ghost use Rattle.network.specs.Slips.{CoveredStays, ServedStays, BehindCovered};
-ghost use Rattle.network.specs.Walks.{AnyWalksAgree, WalksBring};
+ghost use Rattle.network.specs.Walks.{AnyWalksAgree, FairAgree, WalksBring, ZeroKeepsLead};
 ghost use Rattle.std.specs.Prelude.{List};
 
 // Of what two replicas have as committed, one is the beginning of the other.
@@ -138,6 +139,21 @@ pub fn walks_bring()
 // Enough walks to the primary, commits there, and walks from it bring all huts to one log, whatever other walks there are.
 pub fn any_walks_agree()
     ensures { Always AnyWalksAgree }
+{}
+
+// Under every fair schedule of walks and commits all huts come to one log, and stay so.
+pub fn fair_agree()
+    ensures { Always FairAgree }
+{}
+
+// Hut 0 may commit, and still may when any of what is known is committed.
+pub fn zero_keeps_lead()
+    ensures { Always ZeroKeepsLead }
+{}
+
+// What was ever synced, handed on, or shown to a guest, some hut knows.
+pub fn lasting_known()
+    ensures { Always LastingKnown }
 {}
 
 // From every state handing on and committing alone can bring all replicas to one log, all of it committed.
