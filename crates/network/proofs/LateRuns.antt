@@ -2,6 +2,7 @@
 use Rattle.std.proofs.Common.{◌≡◌, ℕ, ◌+◌, ◌<◌, ◌≤◌, ltb, eqb, List, [], ◌∷◌, ◌++◌, length, Some, None, Option, sym, refl, ap, ◌∙◌, subst, append_assoc, append-nil, arith, lt→ltb}
 use mathlib.Core.List.{Memᴰ}
 use lib.Dec.{eqb_refl}
+use Rattle.std.proofs.Math.Seq.{get_or-append_seam}
 use Rattle.bookings.specs.Plain.{PlainEntry}
 use Rattle.journal.specs.History.{Kept, PlainRecord, history_of, state_in, synced}
 use Rattle.letters.specs.Items.{PlainItem}
@@ -11,11 +12,12 @@ use Rattle.network.specs.Late.{HasItem, LateLetterBrings, before_letter, late_le
 use Rattle.network.specs.Net.{Commits, Crashes, Damaged, Event, Makes, MakesFor, Net, Syncs, Takes, TakesBut, Visits, Writes, after, among, huts, run, send, served, step, take_nth, unless_refused, with_hut}
 use Rattle.network.specs.Promise.{Always, makings}
 use Rattle.network.specs.Replicas.{committed_in, vector_in}
-use Rattle.network.proofs.Holds.{Becomes, durables, histories}
+use Rattle.network.proofs.Holds.{Becomes, Holds, Said, durables, histories}
 use Rattle.network.proofs.LateWhole.{letter-brought}
 use Rattle.network.proofs.Lists.{stands}
 use Rattle.network.proofs.Parts.{Older, older_self, older_trans}
-use Rattle.network.proofs.Safety.{after_holds, entries_made, made-few}
+use Rattle.network.proofs.Safety.{after_holds, made-few}
+use Rattle.network.proofs.Stands.{take_nth_at}
 use Rattle.network.proofs.Steps.{run_becomes, step_becomes}
 use Rattle.network.proofs.Tests.{cond_by, cond_yes}
 use Rattle.network.proofs.Walk.{makings-append}
@@ -58,12 +60,10 @@ run_sent (e ∷ es) n =
 
 -- a letter can be taken at its place
 take_nth_there : (ls more : List Letter) (l : Letter) (k : Kept) → take_nth (length ls) (ls ++ (l ∷ more)) k ≡ items_taken l k
-unfolding take_nth
-take_nth_there [] more l k = refl
-take_nth_there (x ∷ ls) more l k = take_nth_there ls more l k
+take_nth_there ls more l k = take_nth_at (length ls) (ls ++ (l ∷ more)) k ∙ ap (λ (x : Letter). items_taken x k) (get_or-append_seam ls l more [])
 
 -- what a hut has is durable when it has synced
-durable_said : (n : Net) (j : ℕ) → j < huts → Older (histories (step (Syncs j) n) j) (durables (step (Syncs j) n) j)
+pub durable_said : (n : Net) (j : ℕ) → j < huts → Older (histories (step (Syncs j) n) j) (durables (step (Syncs j) n) j)
 durable_said n j lt =
     let is : (step (Syncs j) n).hut j ≡ synced (n.hut j) =
     ap (λ (m : Net). m.hut j) (cond_yes (ltb j huts) (with_hut j (synced (n.hut j)) n) n (lt→ltb j huts lt)) ∙ hut_self j (synced (n.hut j)) n in
@@ -80,53 +80,66 @@ module _ (n : Net) (i count : ℕ) (has : List ℕ) (low : i < huts) where
       (sym (ap (λ (m : Net). (m.hut i).durable) written_is ∙ ap (λ (k : Kept). k.durable) (cond_yes (eqb i i) (synced (n.hut i)) (n.hut i) (eqb_refl i))))
       (older_self (histories n i))
 
-module _ (es between later : List Event) (few : makings (es ++ (between ++ later)) < capacity) (i j : ℕ) (low : i < huts) (lt : j < huts) where
-  abbrev letter : Letter
-  letter = late_letter (after es) between i j
+module _ {every : List PlainEntry} (n : Net) (I : Holds every n) (between later : List Event) (i j : ℕ) (low : i < huts) (lt : j < huts) where
+  abbrev pub letter : Letter
+  letter = late_letter n between i j
 
-  abbrev sent_before : List Letter
-  sent_before = (before_letter (after es) between j).sent
+  abbrev pub sent_before : List Letter
+  sent_before = (before_letter n between j).sent
 
-  abbrev coming : Net
-  coming = run later (letter_written (after es) between i j)
+  abbrev pub coming : Net
+  coming = run later (letter_written n between i j)
 
-  abbrev said-holds : Becomes (entries_made es) (after es) (step (Syncs j) (after es))
-  said-holds = step_becomes (Syncs j) (after es) (after_holds es)
+  abbrev pub said-holds : Becomes every n (step (Syncs j) n)
+  said-holds = step_becomes (Syncs j) n I
 
-  first : (every : List PlainEntry) × (length every ≤ length (entries_made es) + makings between) × Becomes every (step (Syncs j) (after es)) (before_letter (after es) between j)
-  first = run_becomes between (step (Syncs j) (after es)) said-holds.holds
+  pub first : (made : List PlainEntry) × (length made ≤ length every + makings between) × Becomes made (step (Syncs j) n) (before_letter n between j)
+  first = run_becomes between (step (Syncs j) n) said-holds.holds
 
-  written-holds : Becomes first.0 (before_letter (after es) between j) (letter_written (after es) between i j)
-  written-holds = step_becomes (Writes i (length (committed_in (said_by (after es) j))) (vector_in (said_by (after es) j))) (before_letter (after es) between j) first.2.holds
+  pub written-holds : Becomes first.0 (before_letter n between j) (letter_written n between i j)
+  written-holds = step_becomes (Writes i (length (committed_in (said_by n j))) (vector_in (said_by n j))) (before_letter n between j) first.2.holds
 
-  second : (every : List PlainEntry) × (length every ≤ length first.0 + makings later) × Becomes every (letter_written (after es) between i j) coming
-  second = run_becomes later (letter_written (after es) between i j) written-holds.holds
+  pub second : (made : List PlainEntry) × (length made ≤ length first.0 + makings later) × Becomes made (letter_written n between i j) coming
+  second = run_becomes later (letter_written n between i j) written-holds.holds
 
   sent-there : (more : List Letter) × (coming.sent ≡ sent_before ++ (letter ∷ more))
   sent-there =
-      let a = run_sent later (letter_written (after es) between i j) in
-      let is = ap (λ (m : Net). m.sent) (written_is (before_letter (after es) between j) i (length (committed_in (said_by (after es) j))) (vector_in (said_by (after es) j)) low) in
+      let a = run_sent later (letter_written n between i j) in
+      let is = ap (λ (m : Net). m.sent) (written_is (before_letter n between j) i (length (committed_in (said_by n j))) (vector_in (said_by n j)) low) in
       (a.0, a.1 ∙ ap (λ (l : List Letter). l ++ a.0) is ∙ append_assoc sent_before (letter ∷ []) a.0)
 
-  brought : (w : PlainItem) → Memᴰ w letter → HasItem (items_taken letter (coming.hut j)) w
-  brought =
-      letter-brought coming second.2.holds (omega (arith, few, second.1, first.1, made-few es, makings-append es (between ++ later), makings-append between later)) i j
-      ((before_letter (after es) between j).hut i)
-      (older_trans (histories (before_letter (after es) between j) i) (durables (letter_written (after es) between i j) i) (durables coming i)
-      (durable_written (before_letter (after es) between j) i (length (committed_in (said_by (after es) j))) (vector_in (said_by (after es) j)) low) (second.2.grows i))
-      (history_of (said_by (after es) j))
-      (older_trans (history_of (said_by (after es) j)) (durables (step (Syncs j) (after es)) j) (durables coming j) (durable_said (after es) j lt)
-      (older_trans (durables (step (Syncs j) (after es)) j) (durables (before_letter (after es) between j) j) (durables coming j) (first.2.grows j)
-      (older_trans (durables (before_letter (after es) between j) j) (durables (letter_written (after es) between i j) j) (durables coming j) (written-holds.grows j) (second.2.grows j))))
-      (second.2.holds.said letter (subst (λ (ls : List Letter). Memᴰ letter ls) (sym sent-there.1) (stands letter sent_before sent-there.0)))
+  -- what its writer had lasts, and so does what hut j said to have
+  pub theirs-last : Older (histories (before_letter n between j) i) (durables coming i)
+  theirs-last =
+      older_trans (histories (before_letter n between j) i) (durables (letter_written n between i j) i) (durables coming i)
+      (durable_written (before_letter n between j) i (length (committed_in (said_by n j))) (vector_in (said_by n j)) low) (second.2.grows i)
 
-  late-brings : (w : PlainItem) → Memᴰ w letter → HasItem ((letter_taken (after es) between later i j).hut j) w
-  late-brings w m =
+  pub mine-last : Older (history_of (said_by n j)) (durables coming j)
+  mine-last =
+      older_trans (history_of (said_by n j)) (durables (step (Syncs j) n) j) (durables coming j) (durable_said n j lt)
+      (older_trans (durables (step (Syncs j) n) j) (durables (before_letter n between j) j) (durables coming j) (first.2.grows j)
+      (older_trans (durables (before_letter n between j) j) (durables (letter_written n between i j) j) (durables coming j) (written-holds.grows j) (second.2.grows j)))
+
+  pub letter-said : (w : PlainItem) → Memᴰ w letter → Said (durables coming) w
+  letter-said = second.2.holds.said letter (subst (λ (ls : List Letter). Memᴰ letter ls) (sym sent-there.1) (stands letter sent_before sent-there.0))
+
+  pub few-made : length every + (makings between + makings later) < capacity → length second.0 < capacity
+  few-made few = omega (arith, few, second.1, first.1)
+
+  -- the letter is taken
+  pub taken_is : (letter_taken n between later i j).hut j ≡ items_taken letter (coming.hut j)
+  taken_is =
       let x = take_nth (length sent_before) coming.sent (coming.hut j) in
-      let is : (letter_taken (after es) between later i j).hut j ≡ items_taken letter (coming.hut j) =
-      ap (λ (n : Net). n.hut j) (cond_yes (ltb j huts) (with_hut j x coming) coming (lt→ltb j huts lt)) ∙ hut_self j x coming
-      ∙ ap (λ (ls : List Letter). take_nth (length sent_before) ls (coming.hut j)) sent-there.1 ∙ take_nth_there sent_before sent-there.0 letter (coming.hut j) in
-      subst (λ (k : Kept). HasItem k w) (sym is) (brought w m)
+      ap (λ (m : Net). m.hut j) (cond_yes (ltb j huts) (with_hut j x coming) coming (lt→ltb j huts lt)) ∙ hut_self j x coming
+      ∙ ap (λ (ls : List Letter). take_nth (length sent_before) ls (coming.hut j)) sent-there.1 ∙ take_nth_there sent_before sent-there.0 letter (coming.hut j)
+
+  late-brings :
+      length every + (makings between + makings later) < capacity → (w : PlainItem) → Memᴰ w letter → HasItem ((letter_taken n between later i j).hut j) w
+  late-brings few w m =
+      subst (λ (k : Kept). HasItem k w) (sym taken_is)
+      (letter-brought coming second.2.holds (few-made few) i j ((before_letter n between j).hut i) theirs-last (history_of (said_by n j)) mine-last letter-said w m)
 
 pub late_letter_brings : Always LateLetterBrings
-late_letter_brings es between later few i j low lt w m = late-brings es between later few i j low lt w m
+late_letter_brings es between later few i j low lt w m =
+    late-brings (after es) (after_holds es) between later i j low lt
+    (omega (arith, few, made-few es, makings-append es (between ++ later), makings-append between later)) w m

@@ -30,13 +30,13 @@ use Rattle.network.proofs.Valid.{log_older}
 use Rattle.network.proofs.Whole.{hut_self}
 
 -- the items of two letters, one letter after the other
-items_two : (a b : Letter) (x : Kept) → items_taken (a ++ b) x ≡ items_taken b (items_taken a x)
+pub items_two : (a b : Letter) (x : Kept) → items_taken (a ++ b) x ≡ items_taken b (items_taken a x)
 unfolding items_taken
 items_two [] b x = refl
 items_two (w ∷ a) b x = items_two a b (takes w x)
 
 -- of what begins one list, and another that begins it or goes on, the shorter begins the longer
-prefix_short : (a b c : List PlainEntry) → Prefix a c → Prefix b c ⊎ Prefix c b → length a ≤ length b → Prefix a b
+pub prefix_short : (a b c : List PlainEntry) → Prefix a c → Prefix b c ⊎ Prefix c b → length a ≤ length b → Prefix a b
 prefix_short a b c p (inr q) le = prefix_trans a c b p q
 prefix_short a b c p (inl q) le = elim (prefix_either a b c p q) [
   | inl r ↦ r
@@ -46,13 +46,13 @@ prefix_short a b c p (inl q) le = elim (prefix_either a b c p q) [
 module _ {every : List PlainEntry} (n : Net) (I : Holds every n) (few : length every < capacity) (i j : ℕ) where
   module _ (k : Kept) (theirs : Older (history_of k) (durables n i)) (b : List PlainRecord) (mine : Older b (durables n j)) where
     -- what was durable is among the records, whatever hut j has come to have
-    still : (x : Kept) (at : At every n j x) (h : ℕ) (rs : List PlainRecord) → Older rs (durables n h) → Older rs (histories (with_hut j x n) h)
+    pub still : (x : Kept) (at : At every n j x) (h : ℕ) (rs : List PlainRecord) → Older rs (durables n h) → Older rs (histories (with_hut j x n) h)
     still x at h rs o =
         let m = with_hut j x n in
         older_trans rs (durables m h) (histories m h) (older_trans rs (durables n h) (durables m h) o (at.grows h)) ((huts_of m at.holds).part h)
 
     -- what the writer had as committed, who has as many committed has too
-    committed-there : (x : Kept) → At every n j x → length (committed_in k) ≤ length (committed_in x) → committed_in k ⊆ entries_in x
+    pub committed-there : (x : Kept) → At every n j x → length (committed_in k) ≤ length (committed_in x) → committed_in k ⊆ entries_in x
     committed-there x at le e d =
         let m = with_hut j x n in
         let first = committed_older (history_of k) (histories m i) (still x at i (history_of k) theirs) in
@@ -62,7 +62,7 @@ module _ {every : List PlainEntry} (n : Net) (I : Holds every n) (few : length e
         Memᴰ.append_left (tentative_in x) (subst (λ (l : List PlainEntry). e ∈ l) (sym p.1) (Memᴰ.append_left p.0 d))
 
     -- what was left out of the letter is known
-    had-there : (x : Kept) → At every n j x → (e : PlainEntry) → e ∈ tentative_in k → e.mark.stamp ≤ get_or (vector_of (entries_of b)) e.mark.hut 0 → e ∈ entries_in x
+    pub had-there : (x : Kept) → At every n j x → (e : PlainEntry) → e ∈ tentative_in k → e.mark.stamp ≤ get_or (vector_of (entries_of b)) e.mark.hut 0 → e ∈ entries_in x
     had-there x at e d le =
         let m = with_hut j x n in
         let H = huts_of m at.holds in
@@ -72,26 +72,26 @@ module _ {every : List PlainEntry} (n : Net) (I : Holds every n) (few : length e
         subst (λ (y : Kept). e ∈ entries_in y) (hut_self j x n)
         (known_number H j e w.0 w.1 (omega (arith, le, vector_at (entries_of b) e.mark.hut low, highest_more (entries_of b) (entries_of (histories m j)) e.mark.hut more)))
 
-    abbrev count : ℕ
+    abbrev pub count : ℕ
     count = length (committed_of b)
 
-    abbrev first_part : ℕ → List PlainEntry
+    abbrev pub first_part : ℕ → List PlainEntry
     first_part most = take most (drop count (committed_in k))
 
-    abbrev second_part : ℕ → Letter
+    abbrev pub second_part : ℕ → Letter
     second_part most = map waiting (take (most - length (first_part most)) (missing (vector_of (entries_of b)) (committed_in k) (tentative_in k)))
 
     module _ (most : ℕ) (said : AllSaid n (placed_from count (first_part most) ++ second_part most)) where
       abbrev said-first : AllSaid n (placed_from count (first_part most))
       said-first = λ w m. said w (Memᴰ.append_left (second_part most) m)
 
-      abbrev halfway : Kept
+      abbrev pub halfway : Kept
       halfway = items_taken (placed_from count (first_part most)) (n.hut j)
 
-      at-halfway : At every n j halfway
+      pub at-halfway : At every n j halfway
       at-halfway = take_all-step n j (placed_from count (first_part most)) (n.hut j) said-first (same_step n I j)
 
-      first-brought : Brought (placed_from count (first_part most)) (n.hut j) × (count + length (first_part most) ≤ length (committed_in halfway))
+      pub first-brought : Brought (placed_from count (first_part most)) (n.hut j) × (count + length (first_part most) ≤ length (committed_in halfway))
       first-brought =
           let p = committed_older b (histories n j) (older_trans b (durables n j) (histories n j) mine ((huts_of n I).part j)) in
           brings_settled n few j (first_part most) count (n.hut j) (same_step n I j) said-first (omega (arith, ap length p.1, length-append (committed_of b) p.0))
@@ -109,7 +109,7 @@ module _ {every : List PlainEntry} (n : Net) (I : Holds every n) (few : length e
             λ w m. none_in (subst (λ (r : ℕ). Memᴰ w (map waiting (take r (missing (vector_of (entries_of b)) (committed_in k) (tentative_in k))))) none m)
       ]
 
-      parts-brought : Brought (placed_from count (first_part most) ++ second_part most) (n.hut j)
+      pub parts-brought : Brought (placed_from count (first_part most) ++ second_part most) (n.hut j)
       parts-brought w m =
           let end = items_taken (second_part most) halfway in
           let at-end = take_all-step n j (second_part most) halfway (λ v d. said v (Memᴰ.append_right (placed_from count (first_part most)) d)) at-halfway in

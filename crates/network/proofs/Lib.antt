@@ -19,6 +19,7 @@ pub mod Leading
 pub mod Leaving
 pub mod Lasting
 pub mod Late
+pub mod LateGrowth
 pub mod LateLetters
 pub mod LateRuns
 pub mod LateWhole
@@ -40,10 +41,12 @@ pub mod Putting
 pub mod Reached
 pub mod Refusals
 pub mod Room
+pub mod Rounds
 pub mod Safety
 pub mod Same
 pub mod Sending
 pub mod Settle
+pub mod Settling
 mod Slipping
 pub mod Sorting
 pub mod Spread

@@ -23,7 +23,7 @@ use Rattle.network.proofs.Tests.{cond_by, cond_yes}
 use Rattle.network.proofs.WalksBring.{got_older}
 use Rattle.network.proofs.Whole.{hut_self}
 
-none_long : (l : List PlainEntry) → length l ≤ 0 → l ≡ []
+pub none_long : (l : List PlainEntry) → length l ≤ 0 → l ≡ []
 none_long [] le = refl
 none_long (e ∷ l) le = absurd (omega arith)
 
@@ -31,7 +31,7 @@ none_there : (l : List PlainEntry) → ((k : PlainEntry) → k ∈ l → ⊥) �
 none_there [] never = refl
 none_there (e ∷ l) never = absurd (never e (Memᴰ.head refl))
 
-all_committed : (rs : List PlainRecord) → tentative_of rs ≡ [] → entries_of rs ≡ committed_of rs
+pub all_committed : (rs : List PlainRecord) → tentative_of rs ≡ [] → entries_of rs ≡ committed_of rs
 all_committed rs q = ap (λ (l : List PlainEntry). committed_of rs ++ l) q ∙ append-nil (committed_of rs)
 
 -- how many a hut has committed
@@ -113,11 +113,10 @@ module _ {every : List PlainEntry} (c : ℕ) where
 
   module _ (low : c < huts) where
     -- the primary commits one more, if anything is tentative
-    commit-more :
-        (n : Net) → Holds every n → KeepsLead n c → (e : PlainEntry) (ts : List PlainEntry) → tentative_of (histories n c) ≡ e ∷ ts
+    pub commit-more :
+        (n : Net) → Holds every n → leader (committed_in (n.hut c)) ≡ c → (e : PlainEntry) (ts : List PlainEntry) → tentative_of (histories n c) ≡ e ∷ ts
         → many (step (Commits c) n) c ≡ suc (many n c)
-    commit-more n I lead e ts q =
-        let leads : leader (committed_in (n.hut c)) ≡ c = lead (committed_in (n.hut c)) (prefix_self (committed_in (n.hut c))) (λ k d. (c, Memᴰ.append_left (tentative_of (histories n c)) d)) in
+    commit-more n I leads e ts q =
         let is : histories (step (Commits c) n) c ≡ Committed e ∷ histories n c =
         ap (λ (m : Net). histories m c) (cond_yes (ltb c huts) (with_hut c (commits (n.hut c)) n) n (lt→ltb c huts low))
         ∙ ap history_of (hut_self c (commits (n.hut c)) n ∙ commits-first n c (I.own c) leads e ts q) in
@@ -131,9 +130,12 @@ module _ {every : List PlainEntry} (c : ℕ) where
         (λ t. subst (λ (x : ℕ). (tentative_of (histories n c) ≡ []) ⊎ (many n c + 1 ≤ many (step (Commits x) n) c)) (sym (eqb→eq a c t)) (here (tentative_of (histories n c)) refl))
         (λ _. inr (omega (arith, (got_older (move (Commit a) n) (move_becomes (Commit a) n I).holds c (histories n c) (move_older (Commit a) n c)).0)))
       where
+        leads : leader (committed_in (n.hut c)) ≡ c
+        leads = lead (committed_in (n.hut c)) (prefix_self (committed_in (n.hut c))) (λ k d. (c, Memᴰ.append_left (tentative_of (histories n c)) d))
+
         here : (ts : List PlainEntry) → tentative_of (histories n c) ≡ ts → (tentative_of (histories n c) ≡ []) ⊎ (many n c + 1 ≤ many (step (Commits c) n) c)
         here [] q = inl q
-        here (e ∷ ts) q = inr (omega (arith, commit-more n I lead e ts q))
+        here (e ∷ ts) q = inr (omega (arith, commit-more n I leads e ts q))
 
     -- so many tries commit so many, or all
     moves-commit :

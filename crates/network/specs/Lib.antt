@@ -12,6 +12,7 @@ pub mod Promise
 pub mod Promised
 pub mod Reached
 pub mod Replicas
+pub mod Rounds
 pub mod Slips
 pub mod Stages
 pub mod Stands

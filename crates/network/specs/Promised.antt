@@ -4,6 +4,7 @@ use Rattle.network.specs.Lasting.{LastingKnown}
 use Rattle.network.specs.Late.{LateLetterBrings}
 use Rattle.network.specs.Net.{Event}
 use Rattle.network.specs.Promise.{OneOrder, OnePrimary, PrimaryLeads, Final, HandedOnStays, SameLog, OnceEach, BehindKnown, NamedBefore, CancelledHoldsNothing, NoGaps, VectorsSay, KnownStays, KnownWhenWritten, StoodSays, GuestsKeep, SlipsSay, LettersBring, TakenWhole, LettersNeeded, CanAgree}
+use Rattle.network.specs.Rounds.{RoundsBring, SyncedSettles}
 use Rattle.network.specs.Slips.{CoveredStays, ServedStays, BehindCovered}
 use Rattle.network.specs.Walks.{AnyWalksAgree, FairAgree, WalksBring, ZeroKeepsLead}
 
@@ -38,3 +39,5 @@ pub record Promised (es : List Event) : Type 0 where
   pub any_walks_agree : AnyWalksAgree es
   pub fair_agree : FairAgree es
   pub zero_keeps_lead : ZeroKeepsLead es
+  pub rounds_bring : RoundsBring es
+  pub synced_settles : SyncedSettles es

@@ -7,6 +7,7 @@ ghost use Rattle.network.specs.Late.{LateLetterBrings};
 ghost use Rattle.network.specs.Mail.{Mailed};
 ghost use Rattle.network.specs.Promise.{Always, OneOrder, OnePrimary, PrimaryLeads, Final, HandedOnStays, SameLog, OnceEach, BehindKnown, NamedBefore, CancelledHoldsNothing, NoGaps, VectorsSay, KnownStays, KnownWhenWritten, StoodSays, GuestsKeep, SlipsSay, LettersBring, TakenWhole, LettersNeeded, CanAgree};
 ghost use Rattle.network.specs.Promised.{Promised};
+ghost use Rattle.network.specs.Rounds.{RoundsBring, SyncedSettles};
 ghost use Rattle.network.specs.Slips.{CoveredStays, ServedStays, BehindCovered};
 ghost use Rattle.network.specs.Walks.{AnyWalksAgree, FairAgree, WalksBring, ZeroKeepsLead};
 ghost use Rattle.std.specs.Prelude.{List};
@@ -144,6 +145,16 @@ pub fn any_walks_agree()
 // Under every fair schedule of walks and commits all huts come to one log, and stay so.
 pub fn fair_agree()
     ensures { Always FairAgree }
+{}
+
+// Enough rounds of letters bring a hut all that another had synced, whatever else comes.
+pub fn rounds_bring()
+    ensures { Always RoundsBring }
+{}
+
+// What a hut had synced is committed for good in every hut after enough rounds and commits, whatever else comes.
+pub fn synced_settles()
+    ensures { Always SyncedSettles }
 {}
 
 // Hut 0 may commit, and still may when any of what is known is committed.
