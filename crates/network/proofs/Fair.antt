@@ -2,13 +2,15 @@
 use Rattle.std.proofs.Common.{◌≡◌, ◌≢◌, ℕ, zero, suc, ◌+◌, ◌<◌, ◌≤◌, List, [], ◌∷◌, ◌++◌, length, sym, refl, ap, ◌∙◌, subst, ap₂, arith}
 use Rattle.std.proofs.lemmas.Bool.{eq-eqb}
 use Rattle.replica.specs.Model.{leader}
+use Rattle.network.specs.Fairness.{segment}
 use Rattle.network.specs.Net.{after, huts}
 use Rattle.network.specs.Promise.{Always}
 use Rattle.network.specs.Replicas.{tentative_of}
-use Rattle.network.specs.Walks.{AllAgree, Commit, FairAgree, Move, Walk, ZeroKeepsLead, moved, moves_from, tries, walks}
+use Rattle.network.specs.Walks.{AllAgree, Commit, FairAgree, Move, Walk, ZeroKeepsLead, moved, segment, tries, walks}
 use Rattle.network.proofs.Holds.{histories}
 use Rattle.network.proofs.Lasting.{lasting_known}
 use Rattle.network.proofs.Safety.{after_holds, made-few}
+use Rattle.network.proofs.Segments.{segment_append}
 use Rattle.network.proofs.Tests.{below, by_same}
 use Rattle.network.proofs.WalksAgree.{agree_by, other}
 use Rattle.network.proofs.WalksBring.{walks_one}
@@ -34,33 +36,25 @@ tries_self : (c : ℕ) → tries c (Commit c ∷ []) ≡ 1
 unfolding tries
 tries_self c = rw (eq-eqb c c refl) refl
 
--- the moves up to a time, and those from then on
-moves_append : (s : ℕ → Move) (a b t : ℕ) → moves_from s t (a + b) ≡ moves_from s t a ++ moves_from s (t + a) b
-moves_append s zero b t = ap₂ (λ (x y : ℕ). moves_from s x y) (omega arith) (omega arith)
-moves_append s (suc a) b t =
-    let longer : suc a + b ≡ suc (a + b) = omega arith in
-    let time : suc t + a ≡ t + suc a = omega arith in
-    ap (moves_from s t) longer ∙ ap (λ (l : List Move). s t ∷ l) (moves_append s a b (suc t) ∙ ap (λ (x : ℕ). moves_from s (suc t) a ++ moves_from s x b) time)
-
 module _ (s : ℕ → Move) (f : List Move → ℕ) (adds : (a b : List Move) → f (a ++ b) ≡ f a + f b) where
-  counted : (a b t : ℕ) → f (moves_from s t (a + b)) ≡ f (moves_from s t a) + f (moves_from s (t + a) b)
-  counted a b t = ap f (moves_append s a b t) ∙ adds (moves_from s t a) (moves_from s (t + a) b)
+  counted : (a b t : ℕ) → f (segment s t (a + b)) ≡ f (segment s t a) + f (segment s (t + a) b)
+  counted a b t = ap f (segment_append s a b t) ∙ adds (segment s t a) (segment s (t + a) b)
 
   -- what comes again and again comes as often as one likes
   often :
-      (m : Move) → f (m ∷ []) ≡ 1 → ((t : ℕ) → (u : ℕ) × (s (t + u) ≡ m)) → (count t : ℕ) → (u : ℕ) × (count ≤ f (moves_from s t u))
+      (m : Move) → f (m ∷ []) ≡ 1 → ((t : ℕ) → (u : ℕ) × (s (t + u) ≡ m)) → (count t : ℕ) → (u : ℕ) × (count ≤ f (segment s t u))
   often m one again zero t = (0, omega arith)
   often m one again (suc count) t =
       let r = often m one again count t in
       let a = again (t + r.0) in
-      let last : f (moves_from s ((t + r.0) + a.0) 1) ≡ 1 = ap (λ (x : Move). f (x ∷ [])) a.1 ∙ one in
+      let last : f (segment s ((t + r.0) + a.0) 1) ≡ 1 = ap (λ (x : Move). f (x ∷ [])) a.1 ∙ one in
       (r.0 + (a.0 + 1), omega (arith, r.1, last, counted r.0 (a.0 + 1) t, counted a.0 1 (t + r.0)))
 
 -- and so does each of many
 each_often :
     (s : ℕ → Move) (c : ℕ) (f : ℕ → List Move → ℕ) → ((i : ℕ) (a b : List Move) → f i (a ++ b) ≡ f i a + f i b) → (m : ℕ → Move) → ((i : ℕ) → f i (m i ∷ []) ≡ 1)
     → ((i t : ℕ) → i < huts → i ≢ c → (u : ℕ) × (s (t + u) ≡ m i)) → (count n t : ℕ) → n ≤ huts
-    → (u : ℕ) × ((i : ℕ) → i < n → i ≢ c → count ≤ f i (moves_from s t u))
+    → (u : ℕ) × ((i : ℕ) → i < n → i ≢ c → count ≤ f i (segment s t u))
 each_often s c f adds m one again count zero t le = (0, λ i lt ne. absurd (omega arith))
 each_often s c f adds m one again count (suc n) t le =
     let r = each_often s c f adds m one again count n t (omega arith) in
@@ -70,31 +64,31 @@ each_often s c f adds m one again count (suc n) t le =
     let a = often s (f n) (adds n) (m n) (one n) (λ x. again n x (omega arith) (other n c apart)) count (t + r.0) in (
       r.0 + a.0,
       λ i lt ne. by_same i n
-          (λ q. subst (λ (x : ℕ). count ≤ f x (moves_from s t (r.0 + a.0))) (sym q) (omega (arith, a.1, counted s (f n) (adds n) r.0 a.0 t)))
+          (λ q. subst (λ (x : ℕ). count ≤ f x (segment s t (r.0 + a.0))) (sym q) (omega (arith, a.1, counted s (f n) (adds n) r.0 a.0 t)))
           (λ other-hut. omega (arith, r.1 i (below i n lt other-hut) ne, counted s (f i) (adds i) r.0 a.0 t)),
     ))
 
 pub fair_agree : Always FairAgree
 fair_agree es few c low lead s fair = (a.0 + (b.0 + d.0), agrees)
   where
-    a : (u : ℕ) × ((i : ℕ) → i < huts → i ≢ c → 128 ≤ walks i c (moves_from s 0 u))
+    a : (u : ℕ) × ((i : ℕ) → i < huts → i ≢ c → 128 ≤ walks i c (segment s 0 u))
     a = each_often s c (λ i. walks i c) (λ i. walks_append i c) (λ i. Walk i c) (λ i. walks_self i c) fair.in_walks 128 huts 0 (omega arith)
 
     waiting : ℕ
-    waiting = length (tentative_of (histories (moved (moves_from s 0 a.0) (after es)) c))
+    waiting = length (tentative_of (histories (moved (segment s 0 a.0) (after es)) c))
 
-    b : (u : ℕ) × (waiting ≤ tries c (moves_from s (0 + a.0) u))
+    b : (u : ℕ) × (waiting ≤ tries c (segment s (0 + a.0) u))
     b = often s (tries c) (tries_append c) (Commit c) (tries_self c) fair.commits waiting (0 + a.0)
 
-    d : (u : ℕ) × ((i : ℕ) → i < huts → i ≢ c → 128 ≤ walks c i (moves_from s ((0 + a.0) + b.0) u))
+    d : (u : ℕ) × ((i : ℕ) → i < huts → i ≢ c → 128 ≤ walks c i (segment s ((0 + a.0) + b.0) u))
     d = each_often s c (λ i. walks c i) (λ i. walks_append c i) (λ i. Walk c i) (λ i. walks_self c i) fair.out_walks 128 huts ((0 + a.0) + b.0) (omega arith)
 
-    agrees : (later : ℕ) → AllAgree es (moved (moves_from s 0 ((a.0 + (b.0 + d.0)) + later)) (after es)) c
+    agrees : (later : ℕ) → AllAgree es (moved (segment s 0 ((a.0 + (b.0 + d.0)) + later)) (after es)) c
     agrees later =
-        let third = moves_from s ((0 + a.0) + b.0) (d.0 + later) in
+        let third = segment s ((0 + a.0) + b.0) (d.0 + later) in
         let time : (a.0 + (b.0 + d.0)) + later ≡ a.0 + (b.0 + (d.0 + later)) = omega arith in
-        let parts = ap (moves_from s 0) time ∙ moves_append s a.0 (b.0 + (d.0 + later)) 0 ∙ ap (λ (l : List Move). moves_from s 0 a.0 ++ l) (moves_append s b.0 (d.0 + later) (0 + a.0)) in
-        let g = agree_by (made_fewer es few) 128 (omega (arith, few, made-few es)) c low (after es) (after_holds es) lead (moves_from s 0 a.0) (moves_from s (0 + a.0) b.0) third a.1 b.1
+        let parts = ap (segment s 0) time ∙ segment_append s a.0 (b.0 + (d.0 + later)) 0 ∙ ap (λ (l : List Move). segment s 0 a.0 ++ l) (segment_append s b.0 (d.0 + later) (0 + a.0)) in
+        let g = agree_by (made_fewer es few) 128 (omega (arith, few, made-few es)) c low (after es) (after_holds es) lead (segment s 0 a.0) (segment s (0 + a.0) b.0) third a.1 b.1
         (λ i lt ne. omega (arith, d.1 i lt ne, counted s (walks c i) (walks_append c i) d.0 later ((0 + a.0) + b.0))) in
         subst (λ (l : List Move). AllAgree es (moved l (after es)) c) (sym parts) (g.0, λ k l. g.1 k (lasting_known es k l))
 

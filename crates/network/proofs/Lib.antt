@@ -3,6 +3,7 @@ pub mod Alone
 mod Cases
 pub mod Exchange
 pub mod Fair
+pub mod FairRuns
 pub mod Fetch
 pub mod Gather
 pub mod Growth
@@ -44,6 +45,7 @@ pub mod Room
 pub mod Rounds
 pub mod Safety
 pub mod Same
+pub mod Segments
 pub mod Sending
 pub mod Settle
 pub mod Settling

@@ -4,6 +4,7 @@ use Rattle.network.specs.Promised.{Promised}
 use Rattle.network.proofs.Agree.{can_agree}
 use Rattle.network.proofs.Exchange.{letters_needed}
 use Rattle.network.proofs.Fair.{fair_agree, zero_keeps_lead}
+use Rattle.network.proofs.FairRuns.{fair_run_settles}
 use Rattle.network.proofs.Handed.{handed_on_stays}
 use Rattle.network.proofs.Lasting.{lasting_known}
 use Rattle.network.proofs.LateRuns.{late_letter_brings}
@@ -51,4 +52,5 @@ promised es =
       zero_keeps_lead = zero_keeps_lead es;
       rounds_bring = rounds_bring es;
       synced_settles = synced_settles es;
+      fair_run_settles = fair_run_settles es;
     }

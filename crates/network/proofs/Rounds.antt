@@ -1,5 +1,5 @@
 -- Round after round of letters, whatever else comes: each brings all that its writer has, or 1,024 entries that were not there.
-use Rattle.std.proofs.Common.{◌≡◌, ℕ, zero, suc, ◌+◌, ◌*◌, ◌<◌, ◌≤◌, ◌⊎◌, ltb, List, [], ◌∷◌, ◌++◌, length, sym, ap, ◌∙◌, subst, inl, inr, arith, length-append, lt→ltb}
+use Rattle.std.proofs.Common.{◌≡◌, ◌≢◌, ℕ, zero, suc, ◌+◌, ◌*◌, ◌<◌, ◌≤◌, ◌⊎◌, ltb, List, [], ◌∷◌, ◌++◌, length, sym, ap, ◌∙◌, subst, inl, inr, arith, length-append, lt→ltb}
 use Rattle.bookings.specs.Plain.{PlainEntry}
 use Rattle.journal.specs.History.{Kept, PlainRecord, history_of, synced}
 use Rattle.replica.specs.Model.{capacity}
@@ -18,9 +18,10 @@ use Rattle.network.proofs.Room.{known_own, once_log}
 use Rattle.network.proofs.Safety.{after_holds, made-few}
 use Rattle.network.proofs.Sorting.{no_more}
 use Rattle.network.proofs.Steps.{run_becomes}
-use Rattle.network.proofs.Tests.{cond_yes}
+use Rattle.network.proofs.Tests.{by_same, cond_yes}
 use Rattle.network.proofs.Valid.{Valid, log_older, valid_older}
 use Rattle.network.proofs.Walk.{makings-append, run-append}
+use Rattle.network.proofs.WalksAgree.{other}
 use Rattle.network.proofs.WalksBring.{Got, got_older, got_trans}
 use Rattle.network.proofs.Whole.{hut_self}
 
@@ -153,13 +154,22 @@ module _ (i j : ℕ) (low : i < huts) (lt : j < huts) where
   -- enough of them bring all
   pub rounds-got :
       (count : ℕ) {every : List PlainEntry} (n : Net) → Holds every n → (es : List Event) → length every + makings es < capacity
-      → 2 * (length every + makings es) < count * 1024 → Rounds count i j n es → Got (durables n i) (durables (run es n) j)
-  rounds-got count n I es few much r = elim (rounds-grow count n I es few r (durables n i) (older_self (durables n i))) [
-    | inl g ↦ g
-    | inr l ↦ let b = run_becomes es n I in absurd (omega (arith, l, much, b.1, measure_most (run es n) b.2.holds j))
-  ]
+      → 2 * (length every + makings es) < count * 1024 → (i ≢ j → Rounds count i j n es) → Got (durables n i) (durables (run es n) j)
+  rounds-got count n I es few much r = by_same i j here (λ apart. between (r (other i j apart)))
+    where
+      here : i ≡ j → Got (durables n i) (durables (run es n) j)
+      here p =
+          let b = run_becomes es n I in
+          let m = run es n in
+          subst (λ (x : ℕ). Got (durables n i) (durables m x)) p (got_valid b.0 (durables m) i (durables n i) (durables m i) (b.2.grows i) (durable-valid m b.2.holds i))
+
+      between : Rounds count i j n es → Got (durables n i) (durables (run es n) j)
+      between r = elim (rounds-grow count n I es few r (durables n i) (older_self (durables n i))) [
+        | inl g ↦ g
+        | inr l ↦ let b = run_becomes es n I in absurd (omega (arith, l, much, b.1, measure_most (run es n) b.2.holds j))
+      ]
 
 pub rounds_bring : Always RoundsBring
 rounds_bring es later few count much i j low lt r =
     let sum = makings-append es later in
-    rounds-got i j low lt count (after es) (after_holds es) later (omega (arith, few, sum, made-few es)) (omega (arith, much, sum, made-few es)) r
+    rounds-got i j low lt count (after es) (after_holds es) later (omega (arith, few, sum, made-few es)) (omega (arith, much, sum, made-few es)) (λ _. r)

@@ -152,9 +152,9 @@ as_many-committed n I c j rs o le k d = let p = go (order_in n I j c) in subst (
     go (inr p) = prefix_short (committed_of rs) (committed_of (durables n j)) (so_far n j) (prefix_trans (committed_of rs) (so_far n c) (so_far n j) a p) (inl b) le
 
 pub synced_settles : Always SyncedSettles
-synced_settles es first second third few count much i c j low mid lt r1 r2 r3 k d =
+synced_settles es first second third few count much i c j low mid lt r1 commits all r2 r3 k d =
     as_many-committed n3 e3.2.holds c j (durables n2 c) (e3.2.grows c) (rounds-got c j mid lt count n2 e2.2.holds third (omega (arith, few, made, e1.1, e2.1, sum)) (omega (arith, much, made, e1.1, e2.1, sum)) r3).0 k
-    (all-commits-last c mid (makings (es ++ (first ++ (second ++ third)))) n1 e1.2.holds second (omega (arith, made, e1.1, sum)) r2 k
+    (all-commits-last c mid commits n1 e1.2.holds second (omega (arith, all, made, e1.1, sum)) r2 k
     ((rounds-got i c low mid count (after es) (after_holds es) first (omega (arith, few, made, sum)) (omega (arith, much, made, sum)) r1).1 k d))
   where
     made : length (entries_made es) ≤ makings es

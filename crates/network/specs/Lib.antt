@@ -2,6 +2,7 @@ pub mod Acts
 pub mod Cases
 pub mod Casts
 pub mod Days
+pub mod Fairness
 pub mod Harm
 pub mod Items
 pub mod Lasting

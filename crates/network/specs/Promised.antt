@@ -1,5 +1,6 @@
 -- All laws of the network at once.
 use Rattle.std.specs.Prelude.{List}
+use Rattle.network.specs.Fairness.{FairRunSettles}
 use Rattle.network.specs.Lasting.{LastingKnown}
 use Rattle.network.specs.Late.{LateLetterBrings}
 use Rattle.network.specs.Net.{Event}
@@ -41,3 +42,4 @@ pub record Promised (es : List Event) : Type 0 where
   pub zero_keeps_lead : ZeroKeepsLead es
   pub rounds_bring : RoundsBring es
   pub synced_settles : SyncedSettles es
+  pub fair_run_settles : FairRunSettles es

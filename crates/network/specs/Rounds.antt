@@ -1,5 +1,5 @@
 -- Letters that go round while anything else goes on: makings, crashes, other letters, bytes that are none, guests.
-use Rattle.std.specs.Prelude.{◌≡◌, ℕ, zero, suc, ◌*◌, ◌<◌, ◌≤◌, true, List, [], ◌∷◌, ◌++◌, length}
+use Rattle.std.specs.Prelude.{◌≡◌, ◌≢◌, ℕ, zero, suc, ◌*◌, ◌<◌, ◌≤◌, true, List, [], ◌∷◌, ◌++◌, length}
 use mathlib.Core.List.{Memᴰ}
 use Rattle.bookings.specs.Plain.{PlainEntry}
 use Rattle.journal.specs.History.{state_in}
@@ -42,15 +42,15 @@ RoundsBring es =
     → (length (committed_of ((after es).hut i).durable) ≤ length (committed_of ((run later (after es)).hut j).durable))
     × ((k : PlainEntry) → Memᴰ k (entries_of ((after es).hut i).durable) → Memᴰ k (entries_of ((run later (after es)).hut j).durable))
 
--- LAW: an entry that a hut had synced is committed for good in every hut, after enough rounds to the primary, enough commits there, and enough rounds from
--- there, whatever else comes: makings and crashes of any hut, too.
+-- LAW: what a hut had synced is committed for good in every hut after enough rounds to the primary, as many commits there as entries were ever made, and
+-- enough rounds from there, whatever else comes: makings and crashes of any hut, too.
 abbrev pub SyncedSettles : List Event → Type 0
 SyncedSettles es =
     (first second third : List Event) → makings (es ++ (first ++ (second ++ third))) < capacity
     → (count : ℕ) → 2 * makings (es ++ (first ++ (second ++ third))) < count * 1024
     → (i c j : ℕ) → i < huts → c < huts → j < huts
-    → Rounds count i c (after es) first
-    → SyncedCommits (makings (es ++ (first ++ (second ++ third)))) c (run first (after es)) second
-    → Rounds count c j (run second (run first (after es))) third
+    → (i ≢ c → Rounds count i c (after es) first)
+    → (commits : ℕ) → makings (es ++ (first ++ (second ++ third))) ≤ commits → SyncedCommits commits c (run first (after es)) second
+    → (c ≢ j → Rounds count c j (run second (run first (after es))) third)
     → (k : PlainEntry) → Memᴰ k (entries_of ((after es).hut i).durable)
     → Memᴰ k (committed_of ((run third (run second (run first (after es)))).hut j).durable)

@@ -3,6 +3,7 @@ use Rattle.std.specs.Prelude.{◌≡◌, ◌≢◌, ℕ, zero, suc, ◌+◌, ◌
 use mathlib.Core.List.{Memᴰ}
 use Rattle.bookings.specs.Plain.{PlainEntry}
 use Rattle.replica.specs.Model.{capacity, leader}
+use Rattle.network.specs.Fairness.{segment}
 use Rattle.network.specs.Lasting.{Lasting, Somewhere}
 use Rattle.network.specs.Net.{Net, Event, Commits, after, huts, step}
 use Rattle.network.specs.Promise.{Prefix, exchange, makings}
@@ -80,14 +81,9 @@ pub record Fair (c : ℕ) (s : ℕ → Move) : Type 0 where
   pub out_walks : (i t : ℕ) → i < huts → i ≢ c → (u : ℕ) × (s (t + u) ≡ Walk c i)
   pub commits : (t : ℕ) → (u : ℕ) × (s (t + u) ≡ Commit c)
 
--- so many of them, from a time on
-abbrev pub moves_from : (ℕ → Move) → (time count : ℕ) → List Move
-moves_from s t zero = []
-moves_from s t (suc count) = s t ∷ moves_from s (suc t) count
-
 -- LAW: under every fair schedule all huts come to one log, all of it committed, with every entry that any had or that was
 -- ever synced or handed on, and stay so.
 abbrev pub FairAgree : List Event → Type 0
 FairAgree es =
     makings es < capacity → (c : ℕ) → c < huts → KeepsLead (after es) c → (s : ℕ → Move) → Fair c s
-    → (enough : ℕ) × ((later : ℕ) → AllAgree es (moved (moves_from s 0 (enough + later)) (after es)) c)
+    → (enough : ℕ) × ((later : ℕ) → AllAgree es (moved (segment s 0 (enough + later)) (after es)) c)

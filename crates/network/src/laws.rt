@@ -1,6 +1,7 @@
 // The laws of the network: each function's contract is a law.
 ghost use Rattle.network.specs.Cases.{SixCases, SixCasesPlayed};
 ghost use Rattle.network.specs.Days.{DayOf, Happens, DaysStay, TimedAgree, TimedIsRun};
+ghost use Rattle.network.specs.Fairness.{FairRunSettles};
 ghost use Rattle.network.specs.Harm.{NoLetterHarms};
 ghost use Rattle.network.specs.Lasting.{LastingKnown};
 ghost use Rattle.network.specs.Late.{LateLetterBrings};
@@ -155,6 +156,11 @@ pub fn rounds_bring()
 // What a hut had synced is committed for good in every hut after enough rounds and commits, whatever else comes.
 pub fn synced_settles()
     ensures { Always SyncedSettles }
+{}
+
+// In every fair run, whatever else comes, what a hut had synced is committed for good in every hut from some time on.
+pub fn fair_run_settles()
+    ensures { Always FairRunSettles }
 {}
 
 // Hut 0 may commit, and still may when any of what is known is committed.
