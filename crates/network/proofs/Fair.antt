@@ -1,12 +1,12 @@
 -- Under every fair schedule there are enough walks and commits, one phase after the other.
-use Rattle.std.proofs.Common.{◌≡◌, ◌≢◌, ℕ, zero, suc, ◌+◌, ◌<◌, ◌≤◌, List, [], ◌∷◌, ◌++◌, length, sym, refl, ap, ◌∙◌, subst, ap₂, arith}
+use Rattle.std.proofs.Common.{◌≡◌, ◌≢◌, ℕ, zero, suc, ◌+◌, ◌<◌, ◌≤◌, List, [], ◌∷◌, ◌++◌, length, sym, refl, ap, ◌∙◌, subst, arith}
 use Rattle.std.proofs.lemmas.Bool.{eq-eqb}
 use Rattle.replica.specs.Model.{leader}
 use Rattle.network.specs.Fairness.{segment}
 use Rattle.network.specs.Net.{after, huts}
 use Rattle.network.specs.Promise.{Always}
 use Rattle.network.specs.Replicas.{tentative_of}
-use Rattle.network.specs.Walks.{AllAgree, Commit, FairAgree, Move, Walk, ZeroKeepsLead, moved, segment, tries, walks}
+use Rattle.network.specs.Walks.{AllAgree, Commit, FairAgree, Move, Walk, ZeroKeepsLead, moved, tries, walks}
 use Rattle.network.proofs.Holds.{histories}
 use Rattle.network.proofs.Lasting.{lasting_known}
 use Rattle.network.proofs.Safety.{after_holds, made-few}

@@ -1,5 +1,5 @@
 -- Of a series without end: what comes up to a time, and from then on.
-use Rattle.std.proofs.Common.{◌≡◌, ℕ, zero, suc, ◌+◌, List, [], ◌∷◌, ◌++◌, ap, ◌∙◌, ap₂, arith}
+use Rattle.std.proofs.Common.{◌≡◌, ℕ, zero, suc, ◌+◌, List, ◌∷◌, ◌++◌, ap, ◌∙◌, ap₂, arith}
 use Rattle.network.specs.Fairness.{segment}
 
 pub segment_append : {A : Type 0} (s : ℕ → A) (a b t : ℕ) → segment s t (a + b) ≡ segment s t a ++ segment s (t + a) b
