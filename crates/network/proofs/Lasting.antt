@@ -17,19 +17,32 @@ use Rattle.network.proofs.Safety.{after_holds, known_stays}
 use Rattle.network.proofs.Walk.{run-append}
 
 -- a true item's entry is known to a hut
-pub said_known : {every : List PlainEntry} (n : Net) → Holds every n → (w : PlainItem) → Said (durables n) w → Somewhere n (entry_in w)
-said_known n I (waiting w) s = (w.entry.mark.hut, maker_knows (huts_of n I) w.entry s.0 (made_grows (durables n) (histories n) (huts_of n I).part w.entry s.0 s.1))
+pub said_known : {every : List PlainEntry} (n : Net) → Holds every n → (w : PlainItem)
+    → Said (durables n) w → Somewhere n (entry_in w)
+said_known n I (waiting w) s = (
+  w.entry.mark.hut,
+  maker_knows (huts_of n I) w.entry s.0
+      (made_grows (durables n) (histories n) (huts_of n I).part w.entry s.0 s.1),
+)
 said_known n I (settled p e) s =
     let first = committed_older (durables n s.0) (histories n s.0) ((huts_of n I).part s.0) in
-    let there = subst (λ (l : List PlainEntry). Memᴰ e l) (sym s.1.2) (stands e s.1.0 s.1.1) in
-    (s.0, Memᴰ.append_left (tentative_of (histories n s.0)) (subst (λ (l : List PlainEntry). Memᴰ e l) (sym first.1) (Memᴰ.append_left first.0 there)))
+    let there = subst (λ (l : List PlainEntry). Memᴰ e l) (sym s.1.2) (stands e s.1.0 s.1.1) in (
+      s.0,
+      Memᴰ.append_left (tentative_of (histories n s.0))
+          (subst (λ (l : List PlainEntry). Memᴰ e l) (sym first.1) (Memᴰ.append_left first.0 there)),
+    )
 
 pub lasting_known : Always LastingKnown
 lasting_known es k (known_now s) = s
 lasting_known es k (synced_once before since i q d) =
-    let is = ap after q ∙ run-append before since start in
-    (i, subst (λ (n : Net). Memᴰ k (entries_in (n.hut i))) (sym is) (known_stays before since i k d))
-lasting_known es k (handed_on l w m d q) = subst (Somewhere (after es)) q (said_known (after es) (after_holds es) w ((after_holds es).said l m w d))
+    let is = ap after q ∙ run-append before since start in (
+      i,
+      subst (λ (n : Net). Memᴰ k (entries_in (n.hut i))) (sym is)
+          (known_stays before since i k d),
+    )
+lasting_known es k (handed_on l w m d q) =
+    subst (Somewhere (after es)) q (said_known (after es) (after_holds es) w
+    ((after_holds es).said l m w d))
 lasting_known es k (seen_by g m) =
     let H = huts_of (after es) (after_holds es) in
     let l = ((after_holds es).guests g).lasts k m in

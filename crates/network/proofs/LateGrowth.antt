@@ -1,5 +1,5 @@
--- A letter brings all that its writer has, or as many entries as it has room for, none of which was there when it was asked for.
-use Rattle.std.proofs.Common.{◌≡◌, ℕ, zero, suc, ◌+◌, ◌-◌, ◌<◌, ◌≤◌, ◌⊎◌, T, leb, List, [], ◌∷◌, ◌++◌, map, length, get_or, take, drop, sym, refl, ap, subst, inl, inr, arith, length-append, length-drop, length-take, le→leb, leb→le}
+-- A letter brings all that its writer has, or 1,024 items that were not there when it was asked for.
+use Rattle.std.proofs.Common.{◌≡◌, ℕ, ◌+◌, ◌-◌, ◌<◌, ◌≤◌, ◌⊎◌, List, ◌++◌, map, length, take, drop, sym, ap, subst, inl, inr, arith, length-append, length-drop, length-take}
 use mathlib.Core.List.Memᴰ
 use mathlib.Core.List.{Memᴰ}
 use Rattle.std.proofs.lemmas.Bool.{cases_lt}
@@ -20,7 +20,7 @@ use Rattle.network.proofs.Holds.{Holds, durables, histories, huts_of, same_step}
 use Rattle.network.proofs.Late.{on_by}
 use Rattle.network.proofs.LateLetters.{AllSaid, At}
 use Rattle.network.proofs.LateWhole.{committed-there, first-brought, first_part, had-there, halfway, items_two, parts-brought, second_part, still}
-use Rattle.network.proofs.Lists.{by_append, by_cons, none_in}
+use Rattle.network.proofs.Lists.{by_append}
 use Rattle.network.proofs.Marks.{◌∈◌, ◌⊆◌}
 use Rattle.network.proofs.Numbers.{highest_above}
 use Rattle.network.proofs.Parts.{Older, older_trans}
@@ -28,79 +28,36 @@ use Rattle.network.proofs.Room.{known_own}
 use Rattle.network.proofs.Sorting.{Once, no_more, once_two, sorted_once}
 use Rattle.network.proofs.Taken.{take_all_older}
 use Rattle.network.proofs.Taking.{take_all-step}
-use Rattle.network.proofs.Tests.{cond_by}
 use Rattle.network.proofs.Valid.{log_older, valid_older}
 use Rattle.network.proofs.WalksBring.{Got}
 use Rattle.network.proofs.Whole.{hut_self}
-
--- an entry of a list is reached by a vector, or is missing
-missing_or :
-    (has : List ℕ) (ahead ts : List PlainEntry) (k : PlainEntry) → k ∈ ts
-    → (k.mark.stamp ≤ get_or has k.mark.hut 0) ⊎ ((w : PlainWaiting) × Memᴰ w (missing has ahead ts) × (w.entry ≡ k))
-missing_or has ahead [] k d = none_in d
-missing_or has ahead (e ∷ ts) k d =
-    cond_by (λ (ws : List PlainWaiting). (k.mark.stamp ≤ get_or has k.mark.hut 0) ⊎ ((w : PlainWaiting) × Memᴰ w ws × (w.entry ≡ k)))
-    (leb e.mark.stamp (get_or has e.mark.hut 0)) (missing has (ahead ++ e ∷ []) ts) (record { entry = e; stood = vector_of ahead } ∷ missing has (ahead ++ e ∷ []) ts)
-    (λ t. by_cons d
-    (λ q. inl (subst (λ (x : PlainEntry). x.mark.stamp ≤ get_or has x.mark.hut 0) (sym q) (leb→le e.mark.stamp (get_or has e.mark.hut 0) t)))
-    (missing_or has (ahead ++ e ∷ []) ts k))
-    (λ _. by_cons d (λ q. inr (record { entry = e; stood = vector_of ahead }, Memᴰ.head refl, sym q))
-    (λ o. elim (missing_or has (ahead ++ e ∷ []) ts k o) [ inl l ↦ inl l | inr s ↦ inr (s.0, Memᴰ.tail s.1, s.2) ]))
-
--- the entries of what is missing
-abbrev pub entries_waiting : List PlainWaiting → List PlainEntry
-entries_waiting ws = map (λ w. w.entry) ws
-
--- they are of the list, the vector does not reach them, and none comes twice
-missing_new :
-    (has : List ℕ) (ts : List PlainEntry) (r : ℕ) (ahead : List PlainEntry) (k : PlainEntry) → k ∈ entries_waiting (take r (missing has ahead ts))
-    → (k ∈ ts) × (get_or has k.mark.hut 0 < k.mark.stamp)
-missing_new has ts zero ahead k d = none_in d
-missing_new has [] (suc r) ahead k d = none_in d
-missing_new has (e ∷ ts) (suc r) ahead k d =
-    cond_by (λ (ws : List PlainWaiting). k ∈ entries_waiting (take (suc r) ws) → (k ∈ (e ∷ ts)) × (get_or has k.mark.hut 0 < k.mark.stamp))
-    (leb e.mark.stamp (get_or has e.mark.hut 0)) (missing has (ahead ++ e ∷ []) ts) (record { entry = e; stood = vector_of ahead } ∷ missing has (ahead ++ e ∷ []) ts)
-    (λ _ m. let p = missing_new has ts (suc r) (ahead ++ e ∷ []) k m in (Memᴰ.tail p.0, p.1))
-    (λ f m. by_cons m (λ q. (Memᴰ.head q, subst (λ (x : PlainEntry). get_or has x.mark.hut 0 < x.mark.stamp) (sym q) (above f)))
-    (λ o. let p = missing_new has ts r (ahead ++ e ∷ []) k o in (Memᴰ.tail p.0, p.1))) d
-  where
-    above : (T (leb e.mark.stamp (get_or has e.mark.hut 0)) → ⊥) → get_or has e.mark.hut 0 < e.mark.stamp
-    above f = elim (cases_lt (get_or has e.mark.hut 0) e.mark.stamp) [ inl lt ↦ lt | inr le ↦ absurd (f (le→leb e.mark.stamp (get_or has e.mark.hut 0) le)) ]
-
-missing_once : (has : List ℕ) (ts : List PlainEntry) (r : ℕ) (ahead : List PlainEntry) → Once ts → Once (entries_waiting (take r (missing has ahead ts)))
-missing_once has ts zero ahead o = tt
-missing_once has [] (suc r) ahead o = tt
-missing_once has (e ∷ ts) (suc r) ahead o =
-    cond_by (λ (ws : List PlainWaiting). Once (entries_waiting (take (suc r) ws))) (leb e.mark.stamp (get_or has e.mark.hut 0))
-    (missing has (ahead ++ e ∷ []) ts) (record { entry = e; stood = vector_of ahead } ∷ missing has (ahead ++ e ∷ []) ts)
-    (λ _. missing_once has ts (suc r) (ahead ++ e ∷ []) o.1)
-    (λ _. (λ k d. o.0 k (missing_new has ts r (ahead ++ e ∷ []) k d).0, missing_once has ts r (ahead ++ e ∷ []) o.1))
-
-waits_of : (ws : List PlainWaiting) (k : PlainEntry) → k ∈ entries_waiting ws → (w : PlainWaiting) × Memᴰ (waiting w) (map waiting ws) × (w.entry ≡ k)
-waits_of [] k d = none_in d
-waits_of (w ∷ ws) k d = by_cons d (λ q. (w, Memᴰ.head refl, sym q)) (λ o. let r = waits_of ws k o in (r.0, Memᴰ.tail r.1, r.2))
-
-waits_in : (ws : List PlainWaiting) (w : PlainWaiting) → Memᴰ w ws → Memᴰ (waiting w) (map waiting ws)
-waits_in [] w d = none_in d
-waits_in (x ∷ ws) w d = by_cons d (λ q. Memᴰ.head (ap waiting q)) (λ o. Memᴰ.tail (waits_in ws w o))
+use Rattle.network.proofs.MissingEntries.{entries_waiting, missing_new, missing_once, missing_or, waits_in, waits_of}
 
 -- entries that are known, and entries that are committed
 abbrev pub measure : List PlainRecord → ℕ
 measure rs = length (entries_of rs) + length (committed_of rs)
 
-module _ {every : List PlainEntry} (n : Net) (I : Holds every n) (few : length every < capacity) (i j : ℕ) where
-  module _ (k : Kept) (theirs : Older (history_of k) (durables n i)) (b : List PlainRecord) (mine : Older b (durables n j)) (most : ℕ) where
+module _
+    {every : List PlainEntry} (n : Net) (I : Holds every n) (few : length every < capacity)
+    (i j : ℕ) where
+  module _
+      (k : Kept) (theirs : Older (history_of k) (durables n i)) (b : List PlainRecord)
+      (mine : Older b (durables n j)) (most : ℕ) where
     abbrev has : List ℕ
     has = vector_of (entries_of b)
 
     abbrev lacked : ℕ
-    lacked = length (drop (length (committed_of b)) (committed_in k)) + length (missing has (committed_in k) (tentative_in k))
+    lacked =
+        length (drop (length (committed_of b)) (committed_in k)) + length
+        (missing has (committed_in k) (tentative_in k))
 
     abbrev settled_part : List PlainEntry
     settled_part = first_part n I few i j k theirs b mine most
 
     abbrev letter : Letter
-    letter = placed_from (length (committed_of b)) settled_part ++ second_part n I few i j k theirs b mine most
+    letter =
+        placed_from (length (committed_of b)) settled_part
+        ++ second_part n I few i j k theirs b mine most
 
     module _ (said : AllSaid n letter) where
       abbrev end : Kept
@@ -114,45 +71,89 @@ module _ {every : List PlainEntry} (n : Net) (I : Holds every n) (few : length e
       long =
           let half = halfway n I few i j k theirs b mine most said in
           let later = items_taken (second_part n I few i j k theirs b mine most) half in
-          let same : later ≡ end = sym (items_two (placed_from (length (committed_of b)) settled_part) (second_part n I few i j k theirs b mine most) (n.hut j)) in
+          let same : later ≡ end =
+          sym (items_two (placed_from (length (committed_of b)) settled_part)
+          (second_part n I few i j k theirs b mine most) (n.hut j)) in
           let at-later = subst (At every n j) (sym same) at-end in
-          let on = on_by n j half later at-later (take_all_older (second_part n I few i j k theirs b mine most) half) in
-          subst (λ (x : Kept). length (committed_of b) + length settled_part ≤ length (committed_in x)) same
-          (omega (arith, (first-brought n I few i j k theirs b mine most said).1, ap length on.0.1, length-append (committed_in half) on.0.0))
+          let on =
+          on_by n j half later at-later (take_all_older
+          (second_part n I few i j k theirs b mine most) half) in
+          subst (λ (x : Kept). length (committed_of b) + length settled_part ≤ length
+          (committed_in x)) same
+          (omega (
+            arith,
+            (first-brought n I few i j k theirs b mine most said).1,
+            ap length on.0.1,
+            length-append (committed_in half) on.0.0,
+          ))
 
       -- a letter with room for all brings all
       brings-all : lacked ≤ most → Got (history_of k) (history_of end)
-      brings-all le = (enough, λ e d. by_append (committed_in k) d (committed-there n I few i j k theirs b mine end at-end enough e) (waits e))
+      brings-all le = (
+        enough,
+        λ e d. by_append (committed_in k) d
+            (committed-there n I few i j k theirs b mine end at-end enough e) (waits e),
+      )
         where
           enough : length (committed_in k) ≤ length (committed_in end)
-          enough = omega (arith, le, long, length-drop (length (committed_of b)) (committed_in k), length-take most (drop (length (committed_of b)) (committed_in k)))
+          enough =
+              omega (
+                arith,
+                le,
+                long,
+                length-drop (length (committed_of b)) (committed_in k),
+                length-take most (drop (length (committed_of b)) (committed_in k)),
+              )
 
-          whole : take (most - length settled_part) (missing has (committed_in k) (tentative_in k)) ≡ missing has (committed_in k) (tentative_in k)
+          whole : take (most - length settled_part) (missing has (committed_in k) (tentative_in k))
+              ≡ missing has (committed_in k) (tentative_in k)
           whole =
               take_all (most - length settled_part) (missing has (committed_in k) (tentative_in k))
-              (omega (arith, le, length-take most (drop (length (committed_of b)) (committed_in k))))
+              (omega (
+                arith,
+                le,
+                length-take most
+                    (drop (length (committed_of b)) (committed_in k)),
+              ))
 
           waits : (e : PlainEntry) → e ∈ tentative_in k → e ∈ entries_in end
           waits e d = elim (missing_or has (committed_in k) (tentative_in k) e d) [
             | inl l ↦ had-there n I few i j k theirs b mine end at-end e d l
             | inr s ↦
-                let there = subst (λ (ws : List PlainWaiting). Memᴰ (waiting s.0) (map waiting ws)) (sym whole) (waits_in (missing has (committed_in k) (tentative_in k)) s.0 s.1) in
+                let there =
+                subst (λ (ws : List PlainWaiting). Memᴰ (waiting s.0) (map waiting ws)) (sym whole)
+                (waits_in (missing has (committed_in k) (tentative_in k)) s.0 s.1) in
                 subst (λ (x : PlainEntry). x ∈ entries_in end) s.2
-                (parts-brought n I few i j k theirs b mine most said (waiting s.0) (Memᴰ.append_right (placed_from (length (committed_of b)) settled_part) there))
+                (parts-brought n I few i j k theirs b mine most said (waiting s.0)
+                (Memᴰ.append_right (placed_from (length (committed_of b)) settled_part) there))
           ]
 
       -- a full letter brings so many that were not there
       brings-more : most < lacked → measure b + most ≤ measure (history_of end)
-      brings-more lt = omega (arith, lt, long, count, length-append new (entries_of b), length-map ws (λ (w : PlainWaiting). w.entry), length-take most (drop (length (committed_of b)) (committed_in k)), length-take (most - length settled_part) (missing has (committed_in k) (tentative_in k)))
+      brings-more lt =
+          omega (
+            arith,
+            lt,
+            long,
+            count,
+            length-append new (entries_of b),
+            length-map ws (λ (w : PlainWaiting). w.entry),
+            length-take most (drop (length (committed_of b)) (committed_in k)),
+            length-take (most - length settled_part) (missing has (committed_in k) (tentative_in k)),
+          )
         where
           ws : List PlainWaiting
           ws = take (most - length settled_part) (missing has (committed_in k) (tentative_in k))
 
           new : List PlainEntry
-          new = entries_waiting (take (most - length settled_part) (missing has (committed_in k) (tentative_in k)))
+          new =
+              entries_waiting (take (most - length settled_part)
+              (missing has (committed_in k) (tentative_in k)))
 
           theirs-here : Older (history_of k) (histories n i)
-          theirs-here = older_trans (history_of k) (durables n i) (histories n i) theirs ((huts_of n I).part i)
+          theirs-here =
+              older_trans (history_of k) (durables n i) (histories n i) theirs
+              ((huts_of n I).part i)
 
           mine-here : Older b (histories n j)
           mine-here = older_trans b (durables n j) (histories n j) mine ((huts_of n I).part j)
@@ -160,39 +161,62 @@ module _ {every : List PlainEntry} (n : Net) (I : Holds every n) (few : length e
           -- they are none of those that were known
           apart-there : (x l : PlainEntry) → x ∈ new → l ∈ entries_of b → x.mark ≡ l.mark → ⊥
           apart-there x l d m q =
-              let p = missing_new has (tentative_in k) (most - length settled_part) (committed_in k) x d in
-              let known = log_older every (durables n) i (history_of k) (histories n i) theirs-here (I.valid i) x (Memᴰ.append_right (committed_in k) p.0) in
+              let p =
+              missing_new has (tentative_in k) (most - length settled_part) (committed_in k) x d in
+              let known =
+              log_older every (durables n) i (history_of k) (histories n i) theirs-here (I.valid i)
+              x (Memᴰ.append_right (committed_in k) p.0) in
               let s = ap (λ (y : PlainMark). y.stamp) q in
               let h = ap (λ (y : PlainMark). highest (entries_of b) y.hut) q in
-              omega (arith, p.1, s, h, highest_above l (entries_of b) m, vector_at (entries_of b) x.mark.hut (known_own n I i x known).0)
+              omega (
+                arith,
+                p.1,
+                s,
+                h,
+                highest_above l (entries_of b) m,
+                vector_at (entries_of b) x.mark.hut (known_own n I i x known).0,
+              )
 
           distinct : Once (new ++ entries_of b)
           distinct =
               once_two new (entries_of b)
-              (missing_once has (tentative_in k) (most - length settled_part) (committed_in k) (sorted_once (tentative_in k) (sorted every (durables n) i (history_of k) (valid_older every (durables n) i (history_of k) (histories n i) theirs-here (I.valid i)))))
-              (log_once every (durables n) j b (valid_older every (durables n) j b (histories n j) mine-here (I.valid j))) apart-there
+              (missing_once has (tentative_in k) (most - length settled_part) (committed_in k)
+              (sorted_once (tentative_in k) (sorted every (durables n) i (history_of k)
+              (valid_older every (durables n) i (history_of k) (histories n i) theirs-here
+              (I.valid i)))))
+              (log_once every (durables n) j b
+              (valid_older every (durables n) j b (histories n j) mine-here (I.valid j)))
+              apart-there
 
           new-there : new ⊆ entries_in end
           new-there x d =
               let w = waits_of ws x d in
               subst (λ (y : PlainEntry). y ∈ entries_in end) w.2
-              (parts-brought n I few i j k theirs b mine most said (waiting w.0) (Memᴰ.append_right (placed_from (length (committed_of b)) settled_part) w.1))
+              (parts-brought n I few i j k theirs b mine most said (waiting w.0)
+              (Memᴰ.append_right (placed_from (length (committed_of b)) settled_part) w.1))
 
           old-there : entries_of b ⊆ entries_in end
           old-there x d =
               let m = with_hut j end n in
               subst (λ (y : Kept). x ∈ entries_in y) (hut_self j end n)
-              (log_older every (durables m) j b (histories m j) (still n I few i j k theirs b mine end at-end j b mine) (at-end.holds.valid j) x d)
+              (log_older every (durables m) j b (histories m j)
+              (still n I few i j k theirs b mine end at-end j b mine) (at-end.holds.valid j) x d)
 
           count : length (new ++ entries_of b) ≤ length (entries_in end)
-          count = no_more (new ++ entries_of b) (entries_in end) distinct (λ x d. by_append new d (new-there x) (old-there x))
+          count =
+              no_more (new ++ entries_of b) (entries_in end) distinct
+              (λ x d. by_append new d (new-there x) (old-there x))
 
   -- so it is with a letter, which has room for 1,024
-  module _ (k : Kept) (theirs : Older (history_of k) (durables n i)) (b : List PlainRecord) (mine : Older b (durables n j)) where
+  module _
+      (k : Kept) (theirs : Older (history_of k) (durables n i)) (b : List PlainRecord)
+      (mine : Older b (durables n j)) where
     abbrev asked : Letter
     asked = words_for (length (committed_of b)) (vector_of (entries_of b)) k
 
-    pub letter-grows : AllSaid n asked → Got (history_of k) (history_of (items_taken asked (n.hut j))) ⊎ (measure b + 1024 ≤ measure (history_of (items_taken asked (n.hut j))))
+    pub letter-grows : AllSaid n asked
+        → Got (history_of k) (history_of (items_taken asked (n.hut j)))
+        ⊎ (measure b + 1024 ≤ measure (history_of (items_taken asked (n.hut j))))
     unfolding parcel_of
     letter-grows said = elim (cases_lt 1024 (lacked k theirs b mine 1024)) [
       | inl lt ↦ inr (brings-more k theirs b mine 1024 said lt)

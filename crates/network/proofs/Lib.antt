@@ -1,6 +1,7 @@
 pub mod Agree
 pub mod Alone
 mod Cases
+pub mod Counting
 pub mod Exchange
 pub mod Fair
 pub mod FairRuns
@@ -19,6 +20,7 @@ pub mod Lacking
 pub mod Leading
 pub mod Leaving
 pub mod Lasting
+pub mod LastingCommits
 pub mod Late
 pub mod LateGrowth
 pub mod LateLetters
@@ -31,6 +33,7 @@ pub mod Logs
 pub mod Mailed
 pub mod Marks
 pub mod Missing
+pub mod MissingEntries
 pub mod Moves
 pub mod Next
 pub mod NextSettled
