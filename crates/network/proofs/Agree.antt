@@ -1,13 +1,15 @@
--- From every state handing on and committing alone can bring all replicas to one log, all of it committed, with every entry that any has.
+-- From every state handing on and committing alone can bring all replicas to one log, all of it committed, with every entry that lasts.
 use Rattle.std.proofs.Common.{◌≡◌, ℕ, ◌<◌, List, [], ◌++◌, sym, refl, ap, ◌∙◌, subst, append-nil, arith}
 use mathlib.Core.List.{Memᴰ}
 use Rattle.bookings.specs.Plain.{PlainEntry}
 use Rattle.journal.specs.History.{history_of}
-use Rattle.network.specs.Net.{Event, Net, after, huts, start}
+use Rattle.network.specs.Lasting.{Lasting}
+use Rattle.network.specs.Net.{Event, Net, huts, start}
 use Rattle.network.specs.Promise.{Always, CanAgree, all_hand_on}
-use Rattle.network.specs.Replicas.{committed_of, entries_in, entries_of, tentative_of}
+use Rattle.network.specs.Replicas.{committed_of, entries_of, tentative_of}
 use Rattle.network.proofs.Gather.{Front, Learned, gather}
 use Rattle.network.proofs.Knowing.{known_here, made-own, maker_knows}
+use Rattle.network.proofs.Lasting.{lasting_known}
 use Rattle.network.proofs.Safety.{All, hist}
 use Rattle.network.proofs.Settle.{settle}
 use Rattle.network.proofs.Spread.{Agreed, spread}
@@ -52,6 +54,6 @@ can_agree es few =
       T_true (all_hand_on w.later) w.walk,
       subst (λ (n : Net). (i : ℕ) → i < huts → (tentative_of (history_of (n.hut i)) ≡ []) × (committed_of (history_of (n.hut i)) ≡ committed_of (history_of (n.hut 0)))) is
           (λ i lt. ((w.there.2 i lt).0, (w.there.2 i lt).1 ∙ sym zero)),
-      subst (λ (n : Net). (i : ℕ) (k : PlainEntry) → Memᴰ k (entries_in ((after es).hut i)) → Memᴰ k (committed_of (history_of (n.hut 0)))) is
-          (λ i k d. subst (Memᴰ k) (sym zero) (w.there.3 i k d)),
+      subst (λ (n : Net). (k : PlainEntry) → Lasting es k → Memᴰ k (committed_of (history_of (n.hut 0)))) is
+          (λ k l. let s = lasting_known es k l in subst (Memᴰ k) (sym zero) (w.there.3 s.0 k s.1)),
     )

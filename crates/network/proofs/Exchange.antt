@@ -47,7 +47,7 @@ module _ (n : Net) (i j : ℕ) (low : i < huts) (lt : j < huts) where
       synced-same =
           cond_by (λ (k : Kept). history_of k ≡ history_of (n.hut x)) (eqb x i) (synced (n.hut i)) (n.hut x) (λ t. ap (λ (y : ℕ). history_of (n.hut y)) (sym (eqb→eq x i t))) (λ _. refl)
 
-exchange_becomes : {every : List PlainEntry} (n : Net) → Holds every n → (i j : ℕ) → Becomes every n (exchange n i j)
+pub exchange_becomes : {every : List PlainEntry} (n : Net) → Holds every n → (i j : ℕ) → Becomes every n (exchange n i j)
 exchange_becomes n I i j =
     let e = Writes i (length (committed_in (n.hut j))) (vector_in (n.hut j)) in
     let a = step_becomes e n I in

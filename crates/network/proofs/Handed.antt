@@ -15,7 +15,7 @@ use Rattle.network.proofs.Steps.{run_becomes, step_becomes}
 use Rattle.network.proofs.Tests.{cond_yes, true_T}
 
 -- an entry that a replica has at a place for good stands there
-stands-said : {every : List PlainEntry} (n : Net) → Holds every n → (place : ℕ) (e : PlainEntry) → Said (durables n) (settled place e) → StandsAt n place e
+pub stands-said : {every : List PlainEntry} (n : Net) → Holds every n → (place : ℕ) (e : PlainEntry) → Said (durables n) (settled place e) → StandsAt n place e
 stands-said n I place e s j d lt = elim (order_in n I j s.0) [
   | inl p ↦
       sym (place_in_first mine p.0 place d lt) ∙ ap (λ (l : List PlainEntry). get_or l place d) (sym p.1 ∙ there.2)

@@ -10,6 +10,7 @@ use Rattle.letters.specs.Items.{PlainItem, settled, waiting}
 use Rattle.replica.specs.Model.{State}
 use Rattle.network.specs.Days.{AllGoOn, DayOf, Dawns, Does, DaysStay, Happens, Timed, TimedAgree, TimedIsRun, timed_after, timed_does, timed_makings, timed_run, timed_step, too_far}
 use Rattle.network.specs.Items.{Leaves, Letter, items_but, items_taken, takes}
+use Rattle.network.specs.Lasting.{Lasting, known_now}
 use Rattle.network.specs.Net.{Commits, Crashes, Damaged, Event, Makes, MakesFor, Net, Syncs, Takes, TakesBut, Visits, Writes, after, huts, run, start, step, take_nth, take_nth_but, with_hut}
 use Rattle.network.specs.Promise.{all_hand_on, makings}
 use Rattle.network.specs.Replicas.{committed_in, committed_of, entries_in, tentative_in, tentative_of}
@@ -213,7 +214,7 @@ timed_agree day_of es few = (
   r.0 ++ map Does g.0,
   go_append day_of r.0 (map Does g.0) t r.1.0 s.1,
   subst (λ (n : Net). (i : ℕ) → i < huts → (tentative_in (n.hut i) ≡ []) × (committed_in (n.hut i) ≡ committed_in (n.hut 0))) (sym end) g.2,
-  λ i e d. subst (λ (n : Net). e ∈ committed_in (n.hut 0)) (sym end) (g.3 i e (subst (λ (n : Net). e ∈ entries_in (n.hut i)) z.2 d)),
+  λ i e d. subst (λ (n : Net). e ∈ committed_in (n.hut 0)) (sym end) (g.3 e (known_now (i, subst (λ (n : Net). e ∈ entries_in (n.hut i)) z.2 d))),
 )
   where
     t : Timed
@@ -231,7 +232,7 @@ timed_agree day_of es few = (
     g :
         (later : List Event) × (all_hand_on later ≡ true)
         × ((i : ℕ) → i < huts → (tentative_in ((run later (after z.0)).hut i) ≡ []) × (committed_in ((run later (after z.0)).hut i) ≡ committed_in ((run later (after z.0)).hut 0)))
-        × ((i : ℕ) (e : PlainEntry) → Memᴰ e (entries_in ((after z.0).hut i)) → Memᴰ e (committed_in ((run later (after z.0)).hut 0)))
+        × ((e : PlainEntry) → Lasting z.0 e → Memᴰ e (committed_in ((run later (after z.0)).hut 0)))
     g = can_agree z.0 (omega (arith, few, z.1))
 
     s : Same day_of top (entries_made z.0) (up_to day_of (entries_made z.0)) g.0 (timed_run day_of r.0 t)

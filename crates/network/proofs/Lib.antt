@@ -10,7 +10,10 @@ pub mod AbstractSteps
 pub mod Agree
 pub mod Alone
 mod Cases
+pub mod Counting
 pub mod Exchange
+pub mod Fair
+pub mod FairRuns
 pub mod Fetch
 pub mod Gather
 pub mod Growth
@@ -26,6 +29,13 @@ pub mod Lacking
 pub mod Leading
 pub mod Leaving
 pub mod Learned
+pub mod Lasting
+pub mod LastingCommits
+pub mod Late
+pub mod LateGrowth
+pub mod LateLetters
+pub mod LateRuns
+pub mod LateWhole
 mod Lettered
 pub mod Letters
 pub mod Lists
@@ -33,6 +43,8 @@ pub mod Logs
 pub mod Mailed
 pub mod Marks
 pub mod Missing
+pub mod MissingEntries
+pub mod Moves
 pub mod Next
 pub mod NextSettled
 pub mod NextWaiting
@@ -45,10 +57,13 @@ pub mod Reached
 pub mod Refining
 pub mod Refusals
 pub mod Room
+pub mod Rounds
 pub mod Safety
 pub mod Same
+pub mod Segments
 pub mod Sending
 pub mod Settle
+pub mod Settling
 mod Slipping
 pub mod Sorting
 pub mod Spread
@@ -61,5 +76,8 @@ mod TakingOn
 pub mod Tests
 pub mod Valid
 pub mod Walk
+pub mod WalksAgree
+pub mod WalksBring
+pub mod WalksSettle
 pub mod Whole
 pub mod Writing

@@ -3,11 +3,19 @@ use Rattle.network.specs.Promise.{Always}
 use Rattle.network.specs.Promised.{Promised}
 use Rattle.network.proofs.Agree.{can_agree}
 use Rattle.network.proofs.Exchange.{letters_needed}
+use Rattle.network.proofs.Fair.{fair_agree, zero_keeps_lead}
+use Rattle.network.proofs.FairRuns.{fair_run_settles}
 use Rattle.network.proofs.Handed.{handed_on_stays}
 use Rattle.network.proofs.Refining.{refines, runs_are_steps}
+use Rattle.network.proofs.Lasting.{lasting_known}
+use Rattle.network.proofs.LateRuns.{late_letter_brings}
+use Rattle.network.proofs.Rounds.{rounds_bring}
 use Rattle.network.proofs.Safety.{behind_known, cancelled-holds-nothing, final, guests_keep, known_stays, known_when_written, named_before, no_gaps, once_each, one_order, one_primary, primary_leads, slips_say, stood_says, vectors_say}
 use Rattle.network.proofs.Same.{same_log}
+use Rattle.network.proofs.Settling.{synced_settles}
 use Rattle.network.proofs.Slipping.{behind_covered, covered_stays, served_stays}
+use Rattle.network.proofs.WalksAgree.{any_walks_agree}
+use Rattle.network.proofs.WalksBring.{walks_bring}
 use Rattle.network.proofs.Whole.{letters_bring, taken-whole}
 
 pub promised : Always Promised
@@ -39,4 +47,13 @@ promised es =
       can_agree = can_agree es;
       refines = refines es;
       runs_are_steps = runs_are_steps es;
+      lasting_known = lasting_known es;
+      late_letter_brings = late_letter_brings es;
+      walks_bring = walks_bring es;
+      any_walks_agree = any_walks_agree es;
+      fair_agree = fair_agree es;
+      zero_keeps_lead = zero_keeps_lead es;
+      rounds_bring = rounds_bring es;
+      synced_settles = synced_settles es;
+      fair_run_settles = fair_run_settles es;
     }

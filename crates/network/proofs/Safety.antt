@@ -60,7 +60,7 @@ lasts n I later i rs o =
     older_trans rs (durables m i) (histories m i) (older_trans rs (durables n i) (durables m i) o (r.grows i)) ((huts_of m r.holds).part i)
 
 -- who may commit leads by what it has
-leads_here : {every : List PlainEntry} (n : Net) → Holds every n → (i : ℕ) → is_primary (state_in (n.hut i)) ≡ true → leader (so_far n i) ≡ i
+pub leads_here : {every : List PlainEntry} (n : Net) → Holds every n → (i : ℕ) → is_primary (state_in (n.hut i)) ≡ true → leader (so_far n i) ≡ i
 leads_here n I i p = sym (eqb→eq (n.hut i).hut (leader (so_far n i)) (true_T (is_primary (state_in (n.hut i))) p)) ∙ I.own i
 
 pub one_primary : Always OnePrimary

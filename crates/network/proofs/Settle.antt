@@ -35,7 +35,7 @@ Left c es e ts on =
     Only c es on × (entries_of (hist on c) ≡ entries_of (hist es c)) × (tentative_of (hist on c) ≡ ts) × (committed_of (hist on c) ≡ committed_of (hist es c) ++ (e ∷ []))
 
 -- the primary commits its first tentative entry
-commits-first :
+pub commits-first :
     (n : Net) (c : ℕ) → (n.hut c).hut ≡ c → leader (committed_in (n.hut c)) ≡ c → (e : PlainEntry) (ts : List PlainEntry) → tentative_in (n.hut c) ≡ e ∷ ts
     → commits (n.hut c) ≡ wrote (Committed e) (n.hut c)
 commits-first n c own leads e ts p =

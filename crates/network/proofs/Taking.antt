@@ -17,7 +17,7 @@ use Rattle.network.proofs.Writing.{settled_fits, waiting_fits}
 
 module _ {every : List PlainEntry} (n : Net) (I : Holds every n) (i : ℕ) where
   -- a hut takes a true item, or leaves it
-  takes_step : (w : PlainItem) → Said (durables n) w → Becomes every n (with_hut i (takes w (n.hut i)) n)
+  pub takes_step : (w : PlainItem) → Said (durables n) w → Becomes every n (with_hut i (takes w (n.hut i)) n)
   takes_step (waiting w) s =
       unless_by (λ x. Becomes every n (with_hut i x n)) (take_tentative_refusal w.entry w.stood (state_in (n.hut i))) (n.hut i) (wrote (Tentative w.entry) (n.hut i))
       (λ q.
@@ -56,7 +56,7 @@ takes_on {every} n i r b w s =
     becomes_trans n m (with_hut i (takes w r) n) b (subst (Becomes every m) is (takes_step m b.holds i w (said_grows (durables n) (durables m) b.grows w s)))
 
 -- all the items of a letter
-take_all-step :
+pub take_all-step :
     {every : List PlainEntry} (n : Net) (i : ℕ) (l : Letter) (r : Kept) → ((w : PlainItem) → Memᴰ w l → Said (durables n) w) → Becomes every n (with_hut i r n)
     → Becomes every n (with_hut i (items_taken l r) n)
 unfolding items_taken

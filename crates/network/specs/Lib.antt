@@ -4,8 +4,11 @@ pub mod Acts
 pub mod Cases
 pub mod Casts
 pub mod Days
+pub mod Fairness
 pub mod Harm
 pub mod Items
+pub mod Lasting
+pub mod Late
 pub mod Mail
 pub mod Net
 pub mod Promise
@@ -13,7 +16,9 @@ pub mod Promised
 pub mod Reached
 pub mod Refinement
 pub mod Replicas
+pub mod Rounds
 pub mod Slips
 pub mod Stages
 pub mod Stands
 pub mod Taking
+pub mod Walks

@@ -12,6 +12,7 @@ use Rattle.entry_log.specs.Vectors.{vector_of, covers}
 use Rattle.replica.specs.Model.{capacity, is_primary}
 use Rattle.letters.specs.Items.{PlainItem, settled}
 use Rattle.network.specs.Items.{Letter, words_for, all_for, refusal_of, takes}
+use Rattle.network.specs.Lasting.{Lasting}
 use Rattle.network.specs.Net.{Net, Event, Makes, Commits, Syncs, Writes, Takes, TakesBut, Damaged, Crashes, Visits, MakesFor, held, step, run, after, huts, served}
 use Rattle.network.specs.Replicas.{committed_of, entries_of, committed_in, tentative_in, entries_in, vector_in}
 
@@ -210,11 +211,12 @@ unfoldable pub all_hand_on : List Event → Bool
 all_hand_on [] = true
 all_hand_on (e ∷ es) = hands_on e && all_hand_on es
 
--- LAW: from every state handing on and committing alone can bring all replicas to one log, all of it committed, with every entry that any has.
+-- LAW: from every state handing on and committing alone can bring all replicas to one log, all of it committed, with every entry that any has
+-- or that was ever synced, handed on, or shown to a guest.
 abbrev pub CanAgree : List Event → Type 0
 CanAgree es =
     makings es < capacity
     → (later : List Event) × (all_hand_on later ≡ true)
     × ((i : ℕ) → i < huts
     → (tentative_in ((run later (after es)).hut i) ≡ []) × (committed_in ((run later (after es)).hut i) ≡ committed_in ((run later (after es)).hut 0)))
-    × ((i : ℕ) (e : PlainEntry) → Memᴰ e (entries_in ((after es).hut i)) → Memᴰ e (committed_in ((run later (after es)).hut 0)))
+    × ((e : PlainEntry) → Lasting es e → Memᴰ e (committed_in ((run later (after es)).hut 0)))

@@ -1,9 +1,14 @@
 -- All laws of the network at once.
 use Rattle.std.specs.Prelude.{List}
+use Rattle.network.specs.Fairness.{FairRunSettles}
+use Rattle.network.specs.Lasting.{LastingKnown}
+use Rattle.network.specs.Late.{LateLetterBrings}
 use Rattle.network.specs.Net.{Event}
 use Rattle.network.specs.Promise.{OneOrder, OnePrimary, PrimaryLeads, Final, HandedOnStays, SameLog, OnceEach, BehindKnown, NamedBefore, CancelledHoldsNothing, NoGaps, VectorsSay, KnownStays, KnownWhenWritten, StoodSays, GuestsKeep, SlipsSay, LettersBring, TakenWhole, LettersNeeded, CanAgree}
 use Rattle.network.specs.Refinement.{Refines, RunsAreSteps}
+use Rattle.network.specs.Rounds.{RoundsBring, SyncedSettles}
 use Rattle.network.specs.Slips.{CoveredStays, ServedStays, BehindCovered}
+use Rattle.network.specs.Walks.{AnyWalksAgree, FairAgree, WalksBring, ZeroKeepsLead}
 
 pub record Promised (es : List Event) : Type 0 where
   pub one_order : OneOrder es
@@ -32,3 +37,12 @@ pub record Promised (es : List Event) : Type 0 where
   pub can_agree : CanAgree es
   pub refines : Refines es
   pub runs_are_steps : RunsAreSteps es
+  pub lasting_known : LastingKnown es
+  pub late_letter_brings : LateLetterBrings es
+  pub walks_bring : WalksBring es
+  pub any_walks_agree : AnyWalksAgree es
+  pub fair_agree : FairAgree es
+  pub zero_keeps_lead : ZeroKeepsLead es
+  pub rounds_bring : RoundsBring es
+  pub synced_settles : SyncedSettles es
+  pub fair_run_settles : FairRunSettles es

@@ -2,12 +2,17 @@
 ghost use Rattle.network.specs.AbstractLaws.{AbstractCausal, AbstractFinal, AbstractGaps, AbstractPrefix, AbstractSame, AbstractSound};
 ghost use Rattle.network.specs.Cases.{SixCases, SixCasesPlayed};
 ghost use Rattle.network.specs.Days.{DayOf, Happens, DaysStay, TimedAgree, TimedIsRun};
+ghost use Rattle.network.specs.Fairness.{FairRunSettles};
 ghost use Rattle.network.specs.Harm.{NoLetterHarms};
+ghost use Rattle.network.specs.Lasting.{LastingKnown};
+ghost use Rattle.network.specs.Late.{LateLetterBrings};
 ghost use Rattle.network.specs.Mail.{Mailed};
 ghost use Rattle.network.specs.Promise.{Always, OneOrder, OnePrimary, PrimaryLeads, Final, HandedOnStays, SameLog, OnceEach, BehindKnown, NamedBefore, CancelledHoldsNothing, NoGaps, VectorsSay, KnownStays, KnownWhenWritten, StoodSays, GuestsKeep, SlipsSay, LettersBring, TakenWhole, LettersNeeded, CanAgree};
 ghost use Rattle.network.specs.Promised.{Promised};
 ghost use Rattle.network.specs.Refinement.{PageGives, PageKeeps, Refines, RunsAreSteps};
+ghost use Rattle.network.specs.Rounds.{RoundsBring, SyncedSettles};
 ghost use Rattle.network.specs.Slips.{CoveredStays, ServedStays, BehindCovered};
+ghost use Rattle.network.specs.Walks.{AnyWalksAgree, FairAgree, WalksBring, ZeroKeepsLead};
 ghost use Rattle.std.specs.Prelude.{List};
 
 // Of what two replicas have as committed, one is the beginning of the other.
@@ -123,6 +128,51 @@ pub fn taken_whole()
 // Each letter brings the next 1,024 items of all that is lacking.
 pub fn letters_needed()
     ensures { Always LettersNeeded }
+{}
+
+// A letter that was written for what a hut said long ago, and comes late, brings all that is in it.
+pub fn late_letter_brings()
+    ensures { Always LateLetterBrings }
+{}
+
+// Enough walks from one hut to another bring it all that the first knew, whatever other walks there are.
+pub fn walks_bring()
+    ensures { Always WalksBring }
+{}
+
+// Enough walks to the primary, commits there, and walks from it bring all huts to one log, whatever other walks there are.
+pub fn any_walks_agree()
+    ensures { Always AnyWalksAgree }
+{}
+
+// Under every fair schedule of walks and commits all huts come to one log, and stay so.
+pub fn fair_agree()
+    ensures { Always FairAgree }
+{}
+
+// Enough rounds of letters bring a hut all that another had synced, whatever else comes.
+pub fn rounds_bring()
+    ensures { Always RoundsBring }
+{}
+
+// What a hut had synced is committed for good in every hut after enough rounds and commits, whatever else comes.
+pub fn synced_settles()
+    ensures { Always SyncedSettles }
+{}
+
+// In every fair run, whatever else comes, what a hut had synced is committed for good in every hut from some time on.
+pub fn fair_run_settles()
+    ensures { Always FairRunSettles }
+{}
+
+// Hut 0 may commit, and still may when any of what is known is committed.
+pub fn zero_keeps_lead()
+    ensures { Always ZeroKeepsLead }
+{}
+
+// What was ever synced, handed on, or shown to a guest, some hut knows.
+pub fn lasting_known()
+    ensures { Always LastingKnown }
 {}
 
 // From every state handing on and committing alone can bring all replicas to one log, all of it committed.
