@@ -12,6 +12,7 @@ mod Harmless
 pub mod Histories
 pub mod Holds
 pub mod Huts
+mod KeptOut
 pub mod Knowing
 pub mod Lacking
 pub mod Leading
@@ -20,6 +21,7 @@ mod Lettered
 pub mod Letters
 pub mod Lists
 pub mod Logs
+mod LowestRefusals
 pub mod Mailed
 pub mod Marks
 pub mod Missing
@@ -27,16 +29,21 @@ pub mod Next
 pub mod NextSettled
 pub mod NextWaiting
 pub mod Numbers
+mod Offering
+mod Outcomes
 pub mod Parts
 pub mod Promises
 pub mod Putting
 pub mod Reached
 pub mod Refusals
+pub mod Refusing
 pub mod Room
 pub mod Safety
 pub mod Same
 pub mod Sending
 pub mod Settle
+mod Sessions
+mod Shown
 mod Slipping
 pub mod Sorting
 pub mod Spread

@@ -6,6 +6,8 @@ use Rattle.network.proofs.Exchange.{letters_needed}
 use Rattle.network.proofs.Handed.{handed_on_stays}
 use Rattle.network.proofs.Safety.{behind_known, cancelled-holds-nothing, final, guests_keep, known_stays, known_when_written, named_before, no_gaps, once_each, one_order, one_primary, primary_leads, slips_say, stood_says, vectors_say}
 use Rattle.network.proofs.Same.{same_log}
+use Rattle.network.proofs.Sessions.{monotonic_reads, monotonic_writes, read_your_writes, writes_follow_reads}
+use Rattle.network.proofs.Shown.{committed_outcome, found_stays, shown_stays}
 use Rattle.network.proofs.Slipping.{behind_covered, covered_stays, served_stays}
 use Rattle.network.proofs.Whole.{letters_bring, taken-whole}
 
@@ -36,4 +38,11 @@ promised es =
       taken-whole = taken-whole es;
       letters_needed = letters_needed es;
       can_agree = can_agree es;
+      shown_stays = shown_stays es;
+      found_stays = found_stays es;
+      committed_outcome = committed_outcome es;
+      read_your_writes = read_your_writes es;
+      monotonic_reads = monotonic_reads es;
+      writes_follow_reads = writes_follow_reads es;
+      monotonic_writes = monotonic_writes es;
     }

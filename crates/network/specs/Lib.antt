@@ -4,12 +4,17 @@ pub mod Casts
 pub mod Days
 pub mod Harm
 pub mod Items
+pub mod KeptOut
 pub mod Mail
 pub mod Net
+pub mod Offering
 pub mod Promise
 pub mod Promised
 pub mod Reached
+pub mod Refusing
 pub mod Replicas
+pub mod Sessions
+pub mod Shown
 pub mod Slips
 pub mod Stages
 pub mod Stands

@@ -2,6 +2,8 @@
 use Rattle.std.specs.Prelude.{List}
 use Rattle.network.specs.Net.{Event}
 use Rattle.network.specs.Promise.{OneOrder, OnePrimary, PrimaryLeads, Final, HandedOnStays, SameLog, OnceEach, BehindKnown, NamedBefore, CancelledHoldsNothing, NoGaps, VectorsSay, KnownStays, KnownWhenWritten, StoodSays, GuestsKeep, SlipsSay, LettersBring, TakenWhole, LettersNeeded, CanAgree}
+use Rattle.network.specs.Sessions.{MonotonicReads, MonotonicWrites, ReadYourWrites, WritesFollowReads}
+use Rattle.network.specs.Shown.{CommittedOutcome, FoundStays, ShownStays}
 use Rattle.network.specs.Slips.{CoveredStays, ServedStays, BehindCovered}
 
 pub record Promised (es : List Event) : Type 0 where
@@ -29,3 +31,10 @@ pub record Promised (es : List Event) : Type 0 where
   pub taken-whole : TakenWhole es
   pub letters_needed : LettersNeeded es
   pub can_agree : CanAgree es
+  pub shown_stays : ShownStays es
+  pub found_stays : FoundStays es
+  pub committed_outcome : CommittedOutcome es
+  pub read_your_writes : ReadYourWrites es
+  pub monotonic_reads : MonotonicReads es
+  pub writes_follow_reads : WritesFollowReads es
+  pub monotonic_writes : MonotonicWrites es

@@ -1,0 +1,69 @@
+-- What was shown to anybody as committed: where it stands later, and what comes of it.
+use Rattle.std.specs.Prelude.{◌≡◌, ℕ, ◌<◌, ◌≤◌, ◌⊎◌, List, ◌++◌, length, take, drop, Some, slice_index_or}
+use mathlib.Core.List.{Memᴰ}
+use Rattle.bookings.specs.Books.{book_of, place_from}
+use Rattle.bookings.specs.Outcomes.{PlainGrant, PlainOutcome, holds, nothing, cancelled, changed}
+use Rattle.bookings.specs.Plain.{PlainMark, PlainChoice, PlainEntry, cancel, change}
+use Rattle.journal.specs.History.{state_in}
+use Rattle.replica.specs.Model.{State, marks_of}
+use Rattle.network.specs.Net.{Net, Event, Syncs, after, huts, run, step}
+use Rattle.network.specs.Promise.{StandsAt}
+use Rattle.network.specs.Replicas.{committed_in, entries_in}
+
+-- later than when a hut synced, as it does before it shows anything
+abbrev pub later_than : List Event → ℕ → List Event → Net
+later_than es i later = run later (step (Syncs i) (after es))
+
+-- LAW: what a hut showed to anybody as committed at a place stands at that place, whatever comes, in every replica that has that many committed.
+abbrev pub ShownStays : List Event → Type 0
+ShownStays es =
+    (i place : ℕ) (d : PlainEntry) → i < huts → place < length (committed_in ((after es).hut i))
+    → (later : List Event) → StandsAt (later_than es i later) place (slice_index_or (committed_in ((after es).hut i)) place d)
+
+-- the entry with a mark is found at a place, and is committed
+abbrev pub CommittedAt : State → PlainMark → ℕ → Type 0
+CommittedAt s m place = (place_from 0 m (marks_of s) ≡ Some place) × (place < length s.log.committed)
+
+-- LAW: where a hut told that the entry with a mark is committed, it is found at the same place and committed, whatever comes, in every replica that has that
+-- many committed.
+abbrev pub FoundStays : List Event → Type 0
+FoundStays es =
+    (i place : ℕ) (m : PlainMark) → i < huts → CommittedAt (state_in ((after es).hut i)) m place
+    → (later : List Event) (j : ℕ) → place < length (committed_in ((later_than es i later).hut j))
+    → CommittedAt (state_in ((later_than es i later).hut j)) m place
+
+-- WHAT COMES OF IT
+
+-- what a list of entries makes of the one at a place
+abbrev pub came_at : List PlainEntry → ℕ → PlainOutcome
+came_at es place = slice_index_or (book_of es).outcomes place nothing
+
+-- an entry ends a booking that holds a choice: it cancels it, or it is a change that was granted
+abbrev pub Ends : PlainEntry → PlainMark → PlainGrant → PlainOutcome → Type 0
+Ends c m g o = ((c.kind ≡ cancel m) × (o ≡ cancelled g)) ⊎ ((cs : List PlainChoice) × (c.kind ≡ change m cs) × (o ≡ changed g c.mark))
+
+-- what came of the entry at a place when a list has grown to another: the same, or an entry behind the first list, which names it, has ended it
+abbrev pub CameOn : (was is : List PlainEntry) → ℕ → Type 0
+CameOn was is place =
+    (d : PlainEntry)
+    → (came_at is place ≡ came_at was place)
+    ⊎ ((c : PlainEntry) × (g : PlainGrant) × Memᴰ c (drop (length was) is) × (came_at was place ≡ holds g)
+    × Ends c (slice_index_or was place d).mark g (came_at is place))
+
+-- LAW: what came of an entry changes only by a later one that names it.
+abbrev pub OutcomeStays : Type 0
+OutcomeStays = (front back : List PlainEntry) (place : ℕ) → place < length front → CameOn front (front ++ back) place
+
+-- LAW: what the committed entries alone make of an entry that was shown as committed is the same, whatever comes, in every replica that has as many; with more
+-- of them it changes only by a committed one that names it; and what a replica tells of it differs from that only by a tentative one that names it.
+abbrev pub CommittedOutcome : List Event → Type 0
+CommittedOutcome es =
+    (i place : ℕ) → i < huts → place < length (committed_in ((after es).hut i))
+    → (later : List Event) (j : ℕ) → place < length (committed_in ((later_than es i later).hut j))
+    → ((n : ℕ) → n ≤ length (committed_in ((after es).hut i)) → n ≤ length (committed_in ((later_than es i later).hut j))
+    → book_of (take n (committed_in ((later_than es i later).hut j))) ≡ book_of (take n (committed_in ((after es).hut i))))
+    × (length (committed_in ((after es).hut i)) ≤ length (committed_in ((later_than es i later).hut j))
+    → CameOn (committed_in ((after es).hut i)) (committed_in ((later_than es i later).hut j)) place)
+    × (length (committed_in ((later_than es i later).hut j)) ≤ length (committed_in ((after es).hut i))
+    → CameOn (committed_in ((later_than es i later).hut j)) (committed_in ((after es).hut i)) place)
+    × CameOn (committed_in ((later_than es i later).hut j)) (entries_in ((later_than es i later).hut j)) place
