@@ -12,7 +12,7 @@ mod Harmless
 pub mod Histories
 pub mod Holds
 pub mod Huts
-mod KeptOut
+pub mod KeptOut
 pub mod Knowing
 pub mod Lacking
 pub mod Leading
@@ -21,7 +21,7 @@ mod Lettered
 pub mod Letters
 pub mod Lists
 pub mod Logs
-mod LowestRefusals
+pub mod LowestRefusals
 pub mod Mailed
 pub mod Marks
 pub mod Missing
@@ -43,7 +43,7 @@ pub mod Same
 pub mod Sending
 pub mod Settle
 mod Sessions
-mod Shown
+pub mod Shown
 mod Slipping
 pub mod Sorting
 pub mod Spread
@@ -54,6 +54,7 @@ pub mod Taken
 pub mod Taking
 mod TakingOn
 pub mod Tests
+mod ToldChange
 pub mod Valid
 pub mod Walk
 pub mod Whole

@@ -1,12 +1,13 @@
 -- What was shown to anybody as committed: where it stands later, and what comes of it.
-use Rattle.std.specs.Prelude.{◌≡◌, ℕ, ◌<◌, ◌≤◌, ◌⊎◌, List, ◌++◌, length, take, drop, Some, slice_index_or}
+use Rattle.std.specs.Prelude.{◌≡◌, ℕ, ◌<◌, ◌≤◌, ◌⊎◌, List, [], ◌∷◌, ◌++◌, length, take, drop, None, Some, slice_index_or}
 use mathlib.Core.List.{Memᴰ}
 use Rattle.bookings.specs.Books.{book_of, place_from}
 use Rattle.bookings.specs.Outcomes.{PlainGrant, PlainOutcome, holds, nothing, cancelled, changed}
-use Rattle.bookings.specs.Plain.{PlainMark, PlainChoice, PlainEntry, cancel, change}
+use Rattle.bookings.specs.Plain.{PlainMark, PlainChoice, PlainEntry, book, cancel, change}
 use Rattle.journal.specs.History.{state_in}
 use Rattle.replica.specs.Model.{State, marks_of}
-use Rattle.network.specs.Net.{Net, Event, Syncs, after, huts, run, step}
+use Rattle.network.specs.Cases.{Gets, asked, committed, five, got, mark}
+use Rattle.network.specs.Net.{Net, Event, Makes, Commits, Syncs, after, huts, run, step}
 use Rattle.network.specs.Promise.{StandsAt}
 use Rattle.network.specs.Replicas.{committed_in, entries_in}
 
@@ -67,3 +68,16 @@ CommittedOutcome es =
     × (length (committed_in ((later_than es i later).hut j)) ≤ length (committed_in ((after es).hut i))
     → CameOn (committed_in ((later_than es i later).hut j)) (committed_in ((after es).hut i)) place)
     × CameOn (committed_in ((later_than es i later).hut j)) (entries_in ((later_than es i later).hut j)) place
+
+-- a booking of hut 0 is committed there; then hut 0 makes a cancellation of it, which nobody commits
+abbrev pub booked : List Event
+booked = Makes 0 (book 1 (five ∷ [])) ∷ Commits 0 ∷ []
+
+abbrev pub then_cancelled : List Event
+then_cancelled = booked ++ Makes 0 (cancel (mark 1 0)) ∷ []
+
+-- LAW: so what is told of a committed entry may change though no more is committed: this is the shortest such run.
+pub record ToldMayChange : Type 0 where
+  pub before : asked (state_in ((after booked).hut 0)) [] (Gets (mark 1 0)) ≡ committed (got 0 five)
+  pub later : asked (state_in ((after then_cancelled).hut 0)) [] (Gets (mark 1 0)) ≡ committed (cancelled (record { number = 0; choice = five; replaces = None }))
+  pub as_many : committed_in ((after then_cancelled).hut 0) ≡ committed_in ((after booked).hut 0)

@@ -9,7 +9,7 @@ ghost use Rattle.network.specs.Promise.{Always, OneOrder, OnePrimary, PrimaryLea
 ghost use Rattle.network.specs.Promised.{Promised};
 ghost use Rattle.network.specs.Refusing.{LowestRefusal};
 ghost use Rattle.network.specs.Sessions.{MonotonicReads, MonotonicWrites, ReadYourWrites, WritesFollowReads};
-ghost use Rattle.network.specs.Shown.{CommittedOutcome, FoundStays, OutcomeStays, ShownStays};
+ghost use Rattle.network.specs.Shown.{CommittedOutcome, FoundStays, OutcomeStays, ShownStays, ToldMayChange};
 ghost use Rattle.network.specs.Slips.{CoveredStays, ServedStays, BehindCovered};
 ghost use Rattle.std.specs.Prelude.{List};
 
@@ -232,4 +232,9 @@ pub fn outcomes_add_up()
 // A call is refused by the lowest number whose condition holds.
 pub fn lowest_refusal()
     ensures { LowestRefusal }
+{}
+
+// What is told of a committed entry may change though no more is committed.
+pub fn told_may_change()
+    ensures { ToldMayChange }
 {}
