@@ -29,6 +29,7 @@ pub mod Next
 pub mod NextSettled
 pub mod NextWaiting
 pub mod Numbers
+mod OfferedOrder
 mod Offering
 mod Outcomes
 pub mod Parts

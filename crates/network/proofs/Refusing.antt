@@ -29,7 +29,11 @@ lowest_one Why a b p q = elim (cases_lt a b) [
 pub refused-lowest : (Why : ℕ → Type 0) (n : ℕ) → Lowest Why n → ByLowest Why (Some n)
 refused-lowest Why n low =
     record {
-      refused = λ m. (λ q. subst (Lowest Why) (some_is n m q) low, λ other. ap Some (lowest_one Why n m low other));
+      refused = λ m. (
+        λ q. subst (Lowest Why) (some_is n m q) low,
+        λ other. ap Some
+            (lowest_one Why n m low other),
+      );
       allowed = (λ q. absurd (never-some n (sym q)), λ none. absurd (none n low.0));
     }
 
@@ -49,18 +53,22 @@ mark_has m l (k, d, q) = subst (λ (x : PlainMark). T (has x l)) q (one_has k l 
 
 pub full_says : (stamp : ℕ) (s : State) → T (no_room s stamp) → NoRoom stamp s
 full_says stamp s t =
-    or_either (is_full s) (leb last_stamp stamp) t (λ u. inl (leb→le capacity (length (all_of s.log)) u)) (λ u. inr (leb→le last_stamp stamp u))
+    or_either (is_full s) (leb last_stamp stamp) t
+    (λ u. inl (leb→le capacity (length (all_of s.log)) u)) (λ u. inr (leb→le last_stamp stamp u))
 
 pub says_full : (stamp : ℕ) (s : State) → NoRoom stamp s → T (no_room s stamp)
-says_full stamp s (inl le) = or_first (is_full s) (leb last_stamp stamp) (le→leb capacity (length (all_of s.log)) le)
-says_full stamp s (inr le) = or_second (is_full s) (leb last_stamp stamp) (le→leb last_stamp stamp le)
+says_full stamp s (inl le) =
+    or_first (is_full s) (leb last_stamp stamp) (le→leb capacity (length (all_of s.log)) le)
+says_full stamp s (inr le) =
+    or_second (is_full s) (leb last_stamp stamp) (le→leb last_stamp stamp le)
 
 pub unknown_says : (k : PlainKind) (s : State) → T (names_unknown (named_by k) s) → NamesUnknown k s
 unknown_says k s t = by (named_by k) refl t
   where
     by : (o : Option PlainMark) → named_by k ≡ o → T (names_unknown o s) → NamesUnknown k s
     by None q t = absurd t
-    by (Some m) q t = (m, q, λ known. not_both (has m (all_of s.log)) t (mark_has m (all_of s.log) known))
+    by (Some m) q t =
+        (m, q, λ known. not_both (has m (all_of s.log)) t (mark_has m (all_of s.log) known))
       where
         not_both : (b : Bool) → T (not b) → T b → ⊥
         not_both true n t = n
@@ -68,30 +76,53 @@ unknown_says k s t = by (named_by k) refl t
 
 pub says_unknown : (k : PlainKind) (s : State) → NamesUnknown k s → T (names_unknown (named_by k) s)
 says_unknown k s (m, q, new) =
-    subst (λ (o : Option PlainMark). T (names_unknown o s)) (sym q) (not_T (has m (all_of s.log)) (λ t. new (has_mark m (all_of s.log) t)))
+    subst (λ (o : Option PlainMark). T (names_unknown o s)) (sym q)
+    (not_T (has m (all_of s.log)) (λ t. new (has_mark m (all_of s.log) t)))
 
 -- one vector covers another, or lacks something of it
-covers-or_lacks : (a b : List ℕ) (h n : ℕ) → (covers_from a b h n ≡ true) ⊎ ((k : ℕ) × (k < h + n) × (get_or a k 0 < get_or b k 0))
+covers-or_lacks :
+    (a b : List ℕ) (h n : ℕ) → (covers_from a b h n ≡ true)
+    ⊎ ((k : ℕ) × (k < h + n) × (get_or a k 0 < get_or b k 0))
 covers-or_lacks a b h zero = inl refl
 covers-or_lacks a b h (suc n) =
-    cond_by (λ (x : Bool). (x ≡ true) ⊎ ((k : ℕ) × (k < h + suc n) × (get_or a k 0 < get_or b k 0))) (leb (get_or b h 0) (get_or a h 0)) (covers_from a b (suc h) n) false
-    (λ _. elim (covers-or_lacks a b (suc h) n) [ inl q ↦ inl q | inr (k, low, lt) ↦ inr (k, omega arith, lt) ])
+    cond_by (λ (x : Bool). (x ≡ true)
+    ⊎ ((k : ℕ) × (k < h + suc n)
+    × (get_or a k 0 < get_or b k 0))) (leb (get_or b h 0) (get_or a h 0))
+    (covers_from a b (suc h) n) false
+    (λ _. elim (covers-or_lacks a b (suc h) n)
+    [ inl q ↦ inl q | inr (k, low, lt) ↦ inr (k, omega arith, lt) ])
     (λ never. inr (h, omega arith, not_le never))
   where
     not_le : (T (leb (get_or b h 0) (get_or a h 0)) → ⊥) → get_or a h 0 < get_or b h 0
-    not_le never = elim (cases_lt (get_or a h 0) (get_or b h 0)) [ inl lt ↦ lt | inr le ↦ absurd (never (le→leb (get_or b h 0) (get_or a h 0) le)) ]
+    not_le never =
+        elim (cases_lt (get_or a h 0) (get_or b h 0))
+        [ inl lt ↦ lt | inr le ↦ absurd (never (le→leb (get_or b h 0) (get_or a h 0) le)) ]
 
-pub lacks_says : (v : List ℕ) (s : State) → T (not (covers (vector_of (all_of s.log)) v)) → SaysMore v s
+pub lacks_says :
+    (v : List ℕ) (s : State) → T (not (covers (vector_of (all_of s.log)) v)) → SaysMore v s
 unfolding covers
 lacks_says v s t = elim (covers-or_lacks (vector_of (all_of s.log)) v 0 16) [
   | inl q ↦ absurd (subst (λ (b : Bool). T (not b)) q t)
   | inr (h, low, lt) ↦
-      let at = vector_at (all_of s.log) h (omega (arith, low)) in
-      (h, omega (arith, low), omega (arith, lt), λ e d same. omega (arith, lt, at, subst (λ (x : ℕ). e.mark.stamp ≤ highest (all_of s.log) x) same (highest_above e (all_of s.log) d)))
+      let at = vector_at (all_of s.log) h (omega (arith, low)) in (
+        h,
+        omega (arith, low),
+        omega (arith, lt),
+        λ e d same. omega (
+          arith,
+          lt,
+          at,
+          subst (λ (x : ℕ). e.mark.stamp ≤ highest (all_of s.log) x) same
+              (highest_above e (all_of s.log) d),
+        ),
+      )
 ]
 
-pub says_lacks : (v : List ℕ) (s : State) → SaysMore v s → covers (vector_of (all_of s.log)) v ≡ true → ⊥
+pub says_lacks :
+    (v : List ℕ) (s : State) → SaysMore v s → covers (vector_of (all_of s.log)) v ≡ true → ⊥
 says_lacks v s (h, low, some, above) t =
     let at = vector_at (all_of s.log) h low in
-    let k = highest_one (all_of s.log) h (get_or v h 0) some (omega (arith, at, covers_at (vector_of (all_of s.log)) v t h low)) in
+    let k =
+    highest_one (all_of s.log) h (get_or v h 0) some
+    (omega (arith, at, covers_at (vector_of (all_of s.log)) v t h low)) in
     omega (arith, k.3, above k.0 k.1 k.2)

@@ -1,5 +1,6 @@
--- Session guarantees: what one who goes from hut to hut finds, and where what is made for such a one stands. Each is said of a guest of the model,
--- and of every slip, whoever carries it, entry by entry that it covers.
+-- Session guarantees: what one who goes from hut to hut finds, and where what is made for such a
+-- one stands. Each is said of a guest of the model, and of every slip, whoever carries it, entry by
+-- entry that it covers.
 use Rattle.std.specs.Prelude.{◌≡◌, ℕ, ◌<◌, true, List, ◌∷◌, ◌++◌, None}
 use mathlib.Core.List.{Memᴰ}
 use Rattle.bookings.specs.Plain.{PlainKind, PlainEntry}
@@ -33,45 +34,67 @@ Knows n i k = Memᴰ k (entries_in (n.hut i))
 
 -- an entry stands behind another in every log that has it
 abbrev pub StandsBehind : Net → PlainEntry → PlainEntry → Type 0
-StandsBehind n e k = (j : ℕ) (front back : List PlainEntry) → entries_in (n.hut j) ≡ front ++ e ∷ back → Memᴰ k front
+StandsBehind n e k =
+    (j : ℕ) (front back : List PlainEntry) → entries_in (n.hut j) ≡ front ++ e ∷ back → Memᴰ k front
 
--- LAW: read your writes. A guest finds all that it had made, wherever it is served; and where a slip covers an entry that was made, and the hut serves with
--- the slip, that entry is known, whatever came between.
+-- LAW: read your writes. A guest finds all that it had made, wherever it is served; and where a
+-- slip covers an entry that was made, and the hut serves with the slip, that entry is known,
+-- whatever came between.
 abbrev pub ReadYourWrites : List Event → Type 0
 ReadYourWrites es =
-    ((g i : ℕ) → served ((after es).guest g) ((after es).hut i) ≡ true → (k : PlainEntry) → Memᴰ k ((after es).guest g).gave → Knows (after es) i k)
-    × ((i : ℕ) (kind : PlainKind) → MayMake (after es) i kind → (later : List Event) (j : ℕ) (slip : List ℕ)
-    → Covered slip (made_at (after es) i kind) → Serves (run later (making i kind (after es))) j slip
+    ((g i : ℕ) → served ((after es).guest g) ((after es).hut i) ≡ true → (k : PlainEntry)
+    → Memᴰ k ((after es).guest g).gave → Knows (after es) i k)
+    × ((i : ℕ) (kind : PlainKind) → MayMake (after es) i kind
+    → (later : List Event) (j : ℕ) (slip : List ℕ)
+    → Covered slip (made_at (after es) i kind)
+    → Serves (run later (making i kind (after es))) j slip
     → Knows (run later (making i kind (after es))) j (made_at (after es) i kind))
 
--- LAW: monotonic reads. A guest finds all that it was shown, wherever it is served; and where a slip covers an entry that was shown, and the hut serves with
--- the slip, that entry is known, whatever came between.
+-- LAW: monotonic reads. A guest finds all that it was shown, wherever it is served; and where a
+-- slip covers an entry that was shown, and the hut serves with the slip, that entry is known,
+-- whatever came between.
 abbrev pub MonotonicReads : List Event → Type 0
 MonotonicReads es =
-    ((g i : ℕ) → served ((after es).guest g) ((after es).hut i) ≡ true → (k : PlainEntry) → Memᴰ k ((after es).guest g).seen → Knows (after es) i k)
-    × ((i : ℕ) → i < huts → (k : PlainEntry) → Knows (after es) i k → (later : List Event) (j : ℕ) (slip : List ℕ)
-    → Covered slip k → Serves (run later (showing i (after es))) j slip → Knows (run later (showing i (after es))) j k)
+    ((g i : ℕ) → served ((after es).guest g) ((after es).hut i) ≡ true → (k : PlainEntry)
+    → Memᴰ k ((after es).guest g).seen → Knows (after es) i k)
+    × ((i : ℕ) → i < huts → (k : PlainEntry) → Knows (after es) i k
+    → (later : List Event) (j : ℕ) (slip : List ℕ)
+    → Covered slip k → Serves (run later (showing i (after es))) j slip
+    → Knows (run later (showing i (after es))) j k)
 
--- LAW: writes follow reads. What is made for a guest stands, in every log that has it, behind all that the guest was shown before; and what is made where a
--- slip is served stands behind each entry that was shown and that the slip covers.
+-- LAW: writes follow reads. What is made for a guest stands, in every log that has it, behind all
+-- that the guest was shown before; and what is made where a slip is served stands behind each entry
+-- that was shown and that the slip covers.
 abbrev pub WritesFollowReads : List Event → Type 0
 WritesFollowReads es =
-    ((g i : ℕ) (kind : PlainKind) → MayMake (after es) i kind → served ((after es).guest g) ((after es).hut i) ≡ true
+    ((g i : ℕ) (kind : PlainKind) → MayMake (after es) i kind
+    → served ((after es).guest g) ((after es).hut i) ≡ true
     → (k : PlainEntry) → Memᴰ k ((after es).guest g).seen
-    → (last : List Event) → StandsBehind (run last (step (MakesFor g i kind) (after es))) (made_at (after es) i kind) k)
-    × ((i : ℕ) → i < huts → (k : PlainEntry) → Knows (after es) i k → (later : List Event) (j : ℕ) (slip : List ℕ) (kind : PlainKind)
-    → Covered slip k → Serves (run later (showing i (after es))) j slip → MayMake (run later (showing i (after es))) j kind
     → (last : List Event)
-    → StandsBehind (run last (making j kind (run later (showing i (after es))))) (made_at (run later (showing i (after es))) j kind) k)
+    → StandsBehind (run last (step (MakesFor g i kind) (after es))) (made_at (after es) i kind) k)
+    × ((i : ℕ) → i < huts → (k : PlainEntry) → Knows (after es) i k
+    → (later : List Event) (j : ℕ) (slip : List ℕ) (kind : PlainKind)
+    → Covered slip k → Serves (run later (showing i (after es))) j slip
+    → MayMake (run later (showing i (after es))) j kind
+    → (last : List Event)
+    → StandsBehind (run last (making j kind (run later (showing i (after es)))))
+    (made_at (run later (showing i (after es))) j kind) k)
 
--- LAW: monotonic writes. What is made for a guest stands, in every log that has it, behind all that the guest had made before; and what is made where a slip
--- is served stands behind each entry that was made before and that the slip covers.
+-- LAW: monotonic writes. What is made for a guest stands, in every log that has it, behind all that
+-- the guest had made before; and what is made where a slip is served stands behind each entry that
+-- was made before and that the slip covers.
 abbrev pub MonotonicWrites : List Event → Type 0
 MonotonicWrites es =
-    ((g i : ℕ) (kind : PlainKind) → MayMake (after es) i kind → served ((after es).guest g) ((after es).hut i) ≡ true
+    ((g i : ℕ) (kind : PlainKind) → MayMake (after es) i kind
+    → served ((after es).guest g) ((after es).hut i) ≡ true
     → (k : PlainEntry) → Memᴰ k ((after es).guest g).gave
-    → (last : List Event) → StandsBehind (run last (step (MakesFor g i kind) (after es))) (made_at (after es) i kind) k)
-    × ((i : ℕ) (first : PlainKind) → MayMake (after es) i first → (later : List Event) (j : ℕ) (slip : List ℕ) (kind : PlainKind)
-    → Covered slip (made_at (after es) i first) → Serves (run later (making i first (after es))) j slip → MayMake (run later (making i first (after es))) j kind
     → (last : List Event)
-    → StandsBehind (run last (making j kind (run later (making i first (after es))))) (made_at (run later (making i first (after es))) j kind) (made_at (after es) i first))
+    → StandsBehind (run last (step (MakesFor g i kind) (after es))) (made_at (after es) i kind) k)
+    × ((i : ℕ) (first : PlainKind) → MayMake (after es) i first
+    → (later : List Event) (j : ℕ) (slip : List ℕ) (kind : PlainKind)
+    → Covered slip (made_at (after es) i first)
+    → Serves (run later (making i first (after es))) j slip
+    → MayMake (run later (making i first (after es))) j kind
+    → (last : List Event)
+    → StandsBehind (run last (making j kind (run later (making i first (after es)))))
+    (made_at (run later (making i first (after es))) j kind) (made_at (after es) i first))
