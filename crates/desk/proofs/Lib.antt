@@ -1,2 +1,3 @@
 pub mod Gotten
+pub mod Lawful
 pub mod Lines

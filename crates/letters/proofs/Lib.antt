@@ -1,6 +1,7 @@
 mod Bodies
 pub mod Bytes
 pub mod Codes
+pub mod Counting
 mod Counts
 pub mod Exact
 pub mod Few

@@ -26,7 +26,7 @@ exact_stamps : Exact [] read_stamps (flat_map four) StampsOk
 unfolding read_stamps
 exact_stamps = exact_times read_four four (λ n. n < 2 ^ 32) exact_four 16
 
-exact_waiting : Exact [] read_waiting encode_waiting WaitingOk
+pub exact_waiting : Exact [] read_waiting encode_waiting WaitingOk
 exact_waiting =
     exact_then [] reads encode EntryOk _ encode_waiting WaitingOk exact_entry
     (λ e e-ok.
@@ -50,24 +50,24 @@ formed n q m es ws bs r s t u a b c d e n-is m-is q-ok es-ok ws-ok few = (
 
 body_formed : (p : ℕ) (cs : List PlainEntry) (ws : List PlainWaiting) (bs : List ℕ) → Bytes bs → read_body bs ≡ heard p cs ws 0 → Formed p cs ws bs
 body_formed p cs ws bs bytes h =
-    let one = number-heard p cs ws (read_two bs) read_placed h in
+    let one = number-heard p cs ws 0 (read_two bs) read_placed h in
     let n = one.0 in
     let r = one.1.0 in
     let a = exact_two bs n r bytes one.1.1.0 in
-    let next = number-heard p cs ws (read_four r) (read_committed n) one.1.1.1 in
+    let next = number-heard p cs ws 0 (read_four r) (read_committed n) one.1.1.1 in
     let q = next.0 in
     let s = next.1.0 in
     let b = exact_four r q s a.1.1 next.1.1.0 in
-    let small = unless-damaged p cs ws (ltb 1024 n) _ next.1.1.1 in
+    let small = unless-damaged p cs ws 0 (ltb 1024 n) _ next.1.1.1 in
     let row = committed-heard p cs ws n q s (read_row reads n s) refl small.1 in
     let es = row.0 in
     let t = row.1.0 in
     let c = row_exact reads encode EntryOk exact_entry n s es t b.1.1 row.1.1.0 in
-    let count = number-heard p cs ws (read_two t) (read_tentative n q es) row.1.1.1 in
+    let count = number-heard p cs ws 0 (read_two t) (read_tentative n q es) row.1.1.1 in
     let m = count.0 in
     let u = count.1.0 in
     let d = exact_two t m u c.1.1 count.1.1.0 in
-    let few = unless-damaged p cs ws (ltb 1024 (n + m)) _ count.1.1.1 in
+    let few = unless-damaged p cs ws 0 (ltb 1024 (n + m)) _ count.1.1.1 in
     let last = tentative-heard p cs ws q m es u (read_row read_waiting m u) refl few.1 in
     let e = row_exact read_waiting encode_waiting WaitingOk exact_waiting m u ws [] d.1.1 last.0 in
     let all =
@@ -75,13 +75,13 @@ body_formed p cs ws bs bytes h =
     (ltb-false 1024 (n + m) few.0) in
     subst (λ k. Formed k cs ws bs) last.1.0 (subst (λ xs. Formed q xs ws bs) last.1.1 all)
 
-bytes_take : (n : ℕ) (bs : List ℕ) → Bytes bs → Bytes (take n bs)
+pub bytes_take : (n : ℕ) (bs : List ℕ) → Bytes bs → Bytes (take n bs)
 bytes_take zero bs ok = tt
 bytes_take (suc n) [] ok = tt
 bytes_take (suc n) (b ∷ bs) ok = (ok.0, bytes_take n bs ok.1)
 
 -- a list that is long enough: its first byte, what stands between, and its last 32
-three_parts : (bs : List ℕ) → 41 ≤ length bs → get_or bs 0 0 ∷ take (length bs - 33) (drop 1 bs) ≡ take (length bs - 32) bs
+pub three_parts : (bs : List ℕ) → 41 ≤ length bs → get_or bs 0 0 ∷ take (length bs - 33) (drop 1 bs) ≡ take (length bs - 32) bs
 three_parts [] long = absurd (omega (arith, long))
 three_parts (b ∷ bs) long =
     let n-is : length (b ∷ bs) - 32 ≡ suc (length (b ∷ bs) - 33) = omega (arith, long) in rw n-is refl
@@ -91,9 +91,9 @@ letter_one_form_lem bs l bytes h =
     let p = l.place in
     let cs = l.committed in
     let ws = l.tentative in
-    let long = unless-damaged p cs ws (ltb (length bs) 41) _ h in
-    let first = if_heard p cs ws (eqb (get_or bs 0 0) 66) _ long.1 in
-    let sum = if_heard p cs ws (signed bs) _ first.1 in
+    let long = unless-damaged p cs ws 0 (ltb (length bs) 41) _ h in
+    let first = if_heard p cs ws 0 (eqb (get_or bs 0 0) 66) _ long.1 in
+    let sum = if_heard p cs ws 0 (signed bs) _ first.1 in
     let front = three_parts bs (ltb-false (length bs) 41 long.0) in
     let body = body_formed p cs ws (take (length bs - 33) (drop 1 bs)) (bytes_take (length bs - 33) (drop 1 bs) (bytes_drop 1 bs bytes)) sum.1 in
     let head : take (length bs - 32) bs ≡ 66 ∷ encode_body l =

@@ -1,5 +1,6 @@
 pub mod Answers
 pub mod Buffers
+pub mod Counting
 pub mod Format
 pub mod Items
 pub mod Laws

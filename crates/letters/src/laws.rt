@@ -1,4 +1,5 @@
 // The laws of the formats: each stands on the contract of a function.
+ghost use Rattle.letters.specs.Counting.{CountsAddUp};
 ghost use Rattle.letters.specs.Laws.{EntryRoundTrip, EntryPrefixFree, EntryCutShort, EntryOneForm, EntrySmall, LetterRoundTrip, LetterInjective, LetterOneForm, UnsignedDamaged, CutDamaged, LongerDamaged};
 
 // Reading an entry that was written gives it back.
@@ -54,4 +55,9 @@ pub fn cut_damaged()
 // A letter that was written is damaged with anything behind it.
 pub fn longer_damaged()
     ensures { LongerDamaged }
+{}
+
+// What is heard and what is kept out are as many entries as the count fields say.
+pub fn counts_add_up()
+    ensures { CountsAddUp }
 {}

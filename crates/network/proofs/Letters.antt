@@ -42,7 +42,7 @@ placed_take zero p l = refl
 placed_take (suc n) p [] = refl
 placed_take (suc n) p (e ∷ l) = ap (λ (x : Letter). settled p e ∷ x) (placed_take n (suc p) l)
 
-placed_length : (p : ℕ) (l : List PlainEntry) → length (placed_from p l) ≡ length l
+pub placed_length : (p : ℕ) (l : List PlainEntry) → length (placed_from p l) ≡ length l
 placed_length p [] = refl
 placed_length p (e ∷ l) = ap suc (placed_length (suc p) l)
 
@@ -67,7 +67,7 @@ Written k (settled p e) = (front : List PlainEntry) × (back : List PlainEntry) 
 Written k (waiting w) = (front : List PlainEntry) × (back : List PlainEntry) × (entries_in k ≡ front ++ (w.entry ∷ back)) × (w.stood ≡ vector_of front)
 
 -- each item of `placed_from p l` is an element of l with its place
-placed_item :
+pub placed_item :
     (p : ℕ) (l : List PlainEntry) (w : PlainItem) → Memᴰ w (placed_from p l)
     → (front : List PlainEntry) × (back : List PlainEntry) × (e : PlainEntry) × (l ≡ front ++ (e ∷ back)) × (w ≡ settled (p + length front) e)
 placed_item p [] w d = none_in d

@@ -24,6 +24,7 @@ mod Harmless
 pub mod Histories
 pub mod Holds
 pub mod Huts
+pub mod KeptOut
 pub mod Knowing
 pub mod Lacking
 pub mod Leading
@@ -40,6 +41,7 @@ mod Lettered
 pub mod Letters
 pub mod Lists
 pub mod Logs
+pub mod LowestRefusals
 pub mod Mailed
 pub mod Marks
 pub mod Missing
@@ -50,12 +52,16 @@ pub mod NextSettled
 pub mod NextWaiting
 pub mod Numbers
 mod PageGives
+mod OfferedOrder
+mod Offering
+mod Outcomes
 pub mod Parts
 pub mod Promises
 pub mod Putting
 pub mod Reached
 pub mod Refining
 pub mod Refusals
+pub mod Refusing
 pub mod Room
 pub mod Rounds
 pub mod Safety
@@ -64,6 +70,8 @@ pub mod Segments
 pub mod Sending
 pub mod Settle
 pub mod Settling
+mod Sessions
+pub mod Shown
 mod Slipping
 pub mod Sorting
 pub mod Spread
@@ -74,6 +82,7 @@ pub mod Taken
 pub mod Taking
 mod TakingOn
 pub mod Tests
+mod ToldChange
 pub mod Valid
 pub mod Walk
 pub mod WalksAgree

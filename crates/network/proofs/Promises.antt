@@ -13,6 +13,8 @@ use Rattle.network.proofs.Rounds.{rounds_bring}
 use Rattle.network.proofs.Safety.{behind_known, cancelled-holds-nothing, final, guests_keep, known_stays, known_when_written, named_before, no_gaps, once_each, one_order, one_primary, primary_leads, slips_say, stood_says, vectors_say}
 use Rattle.network.proofs.Same.{same_log}
 use Rattle.network.proofs.Settling.{synced_settles}
+use Rattle.network.proofs.Sessions.{monotonic_reads, monotonic_writes, read_your_writes, writes_follow_reads}
+use Rattle.network.proofs.Shown.{committed_outcome, found_stays, shown_stays}
 use Rattle.network.proofs.Slipping.{behind_covered, covered_stays, served_stays}
 use Rattle.network.proofs.WalksAgree.{any_walks_agree}
 use Rattle.network.proofs.WalksBring.{walks_bring}
@@ -56,4 +58,11 @@ promised es =
       rounds_bring = rounds_bring es;
       synced_settles = synced_settles es;
       fair_run_settles = fair_run_settles es;
+      shown_stays = shown_stays es;
+      found_stays = found_stays es;
+      committed_outcome = committed_outcome es;
+      read_your_writes = read_your_writes es;
+      monotonic_reads = monotonic_reads es;
+      writes_follow_reads = writes_follow_reads es;
+      monotonic_writes = monotonic_writes es;
     }

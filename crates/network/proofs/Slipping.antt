@@ -40,7 +40,7 @@ module _ (H : Huts) where
       ]
 
 -- what a hut has written is durable when it has synced
-sync_durable : (n : Net) (i : ℕ) → i < huts → Older (histories n i) (durables (step (Syncs i) n) i)
+pub sync_durable : (n : Net) (i : ℕ) → i < huts → Older (histories n i) (durables (step (Syncs i) n) i)
 sync_durable n i low =
     subst (λ (m : Net). Older (histories n i) (durables m i)) (sym (cond_yes (ltb i huts) (with_hut i (synced (n.hut i)) n) n (lt→ltb i huts low)))
     (rw (eq-eqb i i refl, durables) (older_self (histories n i)))
@@ -76,7 +76,7 @@ served_stays es i slip low t later =
     ))
 
 -- the hut's history has the entry, just behind what it knew
-made_there :
+pub made_there :
     (n : Net) (i : ℕ) (kind : PlainKind) → i < huts → make_refusal kind (state_in (n.hut i)) ≡ None
     → Older (Tentative (entry_made kind (state_in (n.hut i))) ∷ histories n i) (histories (step (Makes i kind) n) i)
 made_there n i kind low free =

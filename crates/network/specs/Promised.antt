@@ -7,6 +7,8 @@ use Rattle.network.specs.Net.{Event}
 use Rattle.network.specs.Promise.{OneOrder, OnePrimary, PrimaryLeads, Final, HandedOnStays, SameLog, OnceEach, BehindKnown, NamedBefore, CancelledHoldsNothing, NoGaps, VectorsSay, KnownStays, KnownWhenWritten, StoodSays, GuestsKeep, SlipsSay, LettersBring, TakenWhole, LettersNeeded, CanAgree}
 use Rattle.network.specs.Refinement.{Refines, RunsAreSteps}
 use Rattle.network.specs.Rounds.{RoundsBring, SyncedSettles}
+use Rattle.network.specs.Sessions.{MonotonicReads, MonotonicWrites, ReadYourWrites, WritesFollowReads}
+use Rattle.network.specs.Shown.{CommittedOutcome, FoundStays, ShownStays}
 use Rattle.network.specs.Slips.{CoveredStays, ServedStays, BehindCovered}
 use Rattle.network.specs.Walks.{AnyWalksAgree, FairAgree, WalksBring, ZeroKeepsLead}
 
@@ -46,3 +48,10 @@ pub record Promised (es : List Event) : Type 0 where
   pub rounds_bring : RoundsBring es
   pub synced_settles : SyncedSettles es
   pub fair_run_settles : FairRunSettles es
+  pub shown_stays : ShownStays es
+  pub found_stays : FoundStays es
+  pub committed_outcome : CommittedOutcome es
+  pub read_your_writes : ReadYourWrites es
+  pub monotonic_reads : MonotonicReads es
+  pub writes_follow_reads : WritesFollowReads es
+  pub monotonic_writes : MonotonicWrites es

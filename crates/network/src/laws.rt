@@ -6,11 +6,16 @@ ghost use Rattle.network.specs.Fairness.{FairRunSettles};
 ghost use Rattle.network.specs.Harm.{NoLetterHarms};
 ghost use Rattle.network.specs.Lasting.{LastingKnown};
 ghost use Rattle.network.specs.Late.{LateLetterBrings};
+ghost use Rattle.network.specs.KeptOut.{KeptOutChangesNothing, OutcomesAddUp, SkippedChangesNothing};
 ghost use Rattle.network.specs.Mail.{Mailed};
+ghost use Rattle.network.specs.Offering.{OffersWhatLacks};
 ghost use Rattle.network.specs.Promise.{Always, OneOrder, OnePrimary, PrimaryLeads, Final, HandedOnStays, SameLog, OnceEach, BehindKnown, NamedBefore, CancelledHoldsNothing, NoGaps, VectorsSay, KnownStays, KnownWhenWritten, StoodSays, GuestsKeep, SlipsSay, LettersBring, TakenWhole, LettersNeeded, CanAgree};
 ghost use Rattle.network.specs.Promised.{Promised};
 ghost use Rattle.network.specs.Refinement.{PageGives, PageKeeps, Refines, RunsAreSteps};
 ghost use Rattle.network.specs.Rounds.{RoundsBring, SyncedSettles};
+ghost use Rattle.network.specs.Refusing.{LowestRefusal};
+ghost use Rattle.network.specs.Sessions.{MonotonicReads, MonotonicWrites, ReadYourWrites, WritesFollowReads};
+ghost use Rattle.network.specs.Shown.{CommittedOutcome, FoundStays, OutcomeStays, ShownStays, ToldMayChange};
 ghost use Rattle.network.specs.Slips.{CoveredStays, ServedStays, BehindCovered};
 ghost use Rattle.network.specs.Walks.{AnyWalksAgree, FairAgree, WalksBring, ZeroKeepsLead};
 ghost use Rattle.std.specs.Prelude.{List};
@@ -264,4 +269,59 @@ pub fn page_gives()
 // By steps of a page nothing durable is lost in the nets that it shows: `final_stays` and `known_stays`, from the page alone.
 pub fn page_keeps()
     ensures { PageKeeps }
+// What a hut showed as committed at a place stands there ever after.
+pub fn shown_stays()
+    ensures { Always ShownStays }
+
+// A mark that a hut told to be committed is found at the same place ever after.
+pub fn found_stays()
+    ensures { Always FoundStays }
+
+// What came of an entry changes only by a later one that names it.
+pub fn outcome_stays()
+    ensures { OutcomeStays }
+
+// What the committed entries make of one is the same wherever as many are committed, and changes only by a committed one that names it.
+pub fn committed_outcome()
+    ensures { Always CommittedOutcome }
+
+// A guest that is served finds all that it had made.
+pub fn read_your_writes()
+    ensures { Always ReadYourWrites }
+
+// A guest that is served finds all that it was shown before.
+pub fn monotonic_reads()
+    ensures { Always MonotonicReads }
+
+// What is made for a guest stands behind all that it was shown before.
+pub fn writes_follow_reads()
+    ensures { Always WritesFollowReads }
+
+// What is made for a guest stands behind all that it had made before.
+pub fn monotonic_writes()
+    ensures { Always MonotonicWrites }
+
+// A letter offers just what the other lacks, in the log's order, and has the first 1,024 of that.
+pub fn offers_what_lacks()
+    ensures { OffersWhatLacks }
+
+// Without the items that are skipped a letter leaves the very same replica.
+pub fn skipped_changes_nothing()
+    ensures { SkippedChangesNothing }
+
+// Nor does anything change by what is damaged or kept out.
+pub fn kept_out_changes_nothing()
+    ensures { KeptOutChangesNothing }
+
+// What is told of and what is kept out are as many entries as a letter's count fields say.
+pub fn outcomes_add_up()
+    ensures { OutcomesAddUp }
+
+// A call is refused by the lowest number whose condition holds.
+pub fn lowest_refusal()
+    ensures { LowestRefusal }
+
+// What is told of a committed entry may change though no more is committed.
+pub fn told_may_change()
+    ensures { ToldMayChange }
 {}
