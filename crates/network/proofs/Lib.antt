@@ -1,6 +1,8 @@
 pub mod Agree
 pub mod Alone
 mod Cases
+mod Crashes
+pub mod Effects
 pub mod Exchange
 pub mod Fetch
 pub mod Gather
@@ -9,6 +11,7 @@ pub mod Guests
 pub mod Handed
 pub mod Handing
 mod Harmless
+pub mod Hosting
 pub mod Histories
 pub mod Holds
 pub mod Huts

@@ -2,6 +2,8 @@ pub mod Acts
 pub mod Cases
 pub mod Casts
 pub mod Days
+pub mod Effects
+pub mod Hosting
 pub mod Harm
 pub mod Items
 pub mod Mail
