@@ -6,7 +6,7 @@ use Rattle.network.proofs.Exchange.{letters_needed}
 use Rattle.network.proofs.Handed.{handed_on_stays}
 use Rattle.network.proofs.Safety.{behind_known, cancelled-holds-nothing, final, guests_keep, known_stays, known_when_written, named_before, no_gaps, once_each, one_order, one_primary, primary_leads, slips_say, stood_says, vectors_say}
 use Rattle.network.proofs.Same.{same_log}
-use Rattle.network.proofs.Slipping.{behind_covered, covered_stays, served_stays}
+use Rattle.network.proofs.Slipping.{behind_covered, covered_stays, served_stays, serves_again}
 use Rattle.network.proofs.Whole.{letters_bring, taken-whole}
 
 pub promised : Always Promised
@@ -31,6 +31,7 @@ promised es =
       slips_say = slips_say es;
       covered_stays = covered_stays es;
       served_stays = served_stays es;
+      serves_again = serves_again es;
       behind_covered = behind_covered es;
       letters_bring = letters_bring es;
       taken-whole = taken-whole es;

@@ -2,7 +2,7 @@
 use Rattle.std.specs.Prelude.{List}
 use Rattle.network.specs.Net.{Event}
 use Rattle.network.specs.Promise.{OneOrder, OnePrimary, PrimaryLeads, Final, HandedOnStays, SameLog, OnceEach, BehindKnown, NamedBefore, CancelledHoldsNothing, NoGaps, VectorsSay, KnownStays, KnownWhenWritten, StoodSays, GuestsKeep, SlipsSay, LettersBring, TakenWhole, LettersNeeded, CanAgree}
-use Rattle.network.specs.Slips.{CoveredStays, ServedStays, BehindCovered}
+use Rattle.network.specs.Slips.{CoveredStays, ServedStays, ServesAgain, BehindCovered}
 
 pub record Promised (es : List Event) : Type 0 where
   pub one_order : OneOrder es
@@ -24,6 +24,7 @@ pub record Promised (es : List Event) : Type 0 where
   pub slips_say : SlipsSay es
   pub covered_stays : CoveredStays es
   pub served_stays : ServedStays es
+  pub serves_again : ServesAgain es
   pub behind_covered : BehindCovered es
   pub letters_bring : LettersBring es
   pub taken-whole : TakenWhole es

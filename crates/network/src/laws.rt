@@ -5,7 +5,7 @@ ghost use Rattle.network.specs.Harm.{NoLetterHarms};
 ghost use Rattle.network.specs.Mail.{Mailed};
 ghost use Rattle.network.specs.Promise.{Always, OneOrder, OnePrimary, PrimaryLeads, Final, HandedOnStays, SameLog, OnceEach, BehindKnown, NamedBefore, CancelledHoldsNothing, NoGaps, VectorsSay, KnownStays, KnownWhenWritten, StoodSays, GuestsKeep, SlipsSay, LettersBring, TakenWhole, LettersNeeded, CanAgree};
 ghost use Rattle.network.specs.Promised.{Promised};
-ghost use Rattle.network.specs.Slips.{CoveredStays, ServedStays, BehindCovered};
+ghost use Rattle.network.specs.Slips.{CoveredStays, ServedStays, ServesAgain, BehindCovered};
 ghost use Rattle.std.specs.Prelude.{List};
 
 // Of what two replicas have as committed, one is the beginning of the other.
@@ -101,6 +101,11 @@ pub fn covered_stays()
 // It serves with that slip ever after.
 pub fn served_stays()
     ensures { Always ServedStays }
+{}
+
+// It serves ever after with the slip that it answers.
+pub fn serves_again()
+    ensures { Always ServesAgain }
 {}
 
 // What is made where a slip is served stands behind all that the slip covers.
