@@ -1,2 +1,3 @@
 pub mod Gotten
 pub mod Lines
+pub mod Serving

@@ -1,4 +1,5 @@
 pub mod Failures
+pub mod Guests
 pub mod Replies
 pub mod Said
 pub mod Steps

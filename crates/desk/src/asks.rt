@@ -6,12 +6,14 @@ ghost use Rattle.console.specs.Checks.{Fits32, StampsFit};
 ghost use Rattle.console.specs.Hexes.{bytes_of};
 ghost use Rattle.console.specs.declared.answer.Answer.TheVariants.{Refused as RefusedAnswer};
 ghost use Rattle.console.specs.declared.command.Command.TheVariants as commands;
+ghost use Rattle.desk.specs.Guests.{LineServes};
 ghost use Rattle.desk.specs.Steps.{LineBrings, LineWrites, Rests, RestsAs, line_makes, line_refused, shows, takes_typed};
 ghost use Rattle.desk.specs.Replies.{Shown, Hidden, Told, TypedTold, Untold};
 ghost use Rattle.desk.specs.declared.reply.Reply.TheVariants.{Line};
 ghost use Rattle.journal.specs.History.{Kept, synced, makes};
 ghost use Rattle.letters.specs.Letters.{encode_letter};
 ghost use Rattle.network.specs.Effects.{commits_synced};
+ghost use Rattle.network.specs.Net.{Guest};
 ghost use Rattle.network.specs.Taking.{letter_for};
 ghost use Rattle.network.specs.declared.unplayed.Unplayed.TheVariants.{Memory, Refused, Failed};
 ghost use Rattle.replica.specs.Views.{state_of};
@@ -47,6 +49,7 @@ pub fn ask<D: Desk>(
     ensures leaves { (k : Kept) → D.keeps desk.old k → MatchResult result (λ _. D.keeps desk.new (line_makes command.now (bytes_of letter.entry.digits.now) k)) (RestsAs (D.keeps desk.new) k (line_refused command.now k)) }
     ensures writes { OnOk result (LineWrites page.new.bytes.items command.now (D.state desk.old)) }
     ensures brings { (k : Kept) → D.keeps desk.old k → OnOk result (LineBrings (D.kept_out desk.new) (D.came desk.new) command.now (bytes_of letter.entry.digits.now) k) }
+    ensures serves { (k : Kept) (guest : Guest) → D.keeps desk.old k → LineServes command.now result guest k }
     ensures taken { command.now ≡ commands.Take → OnOk result (TypedTold (bytes_of letter.entry.digits.now) result) }
 {
     match command {
@@ -156,6 +159,7 @@ fn hear<D: Desk>(desk: &mut D, page: &mut Page, letter: Hex) -> Result<Reply, Un
 // What is shown is synced first, also where the answer is a refusal.
 fn show<D: Desk>(desk: &mut D, command: &Command) -> Result<Reply, Unplayed>
     ensures keeps { (k : Kept) → D.keeps desk.old k → MatchResult result (λ _. D.keeps desk.new (shows command.now k)) (RestsAs (D.keeps desk.new) k (shows command.now k)) }
+    ensures serves { (k : Kept) (guest : Guest) → D.keeps desk.old k → LineServes command.now result guest k }
     ensures answer { MatchResult result
         (Shown (D.state desk.new) command.now)
         (λ e. elim e [ Memory ↦ ⊥ | Refused w ↦ Hidden (D.state desk.new) command.now (number_of w) | Failed f ↦ D.shut desk.new ]) }

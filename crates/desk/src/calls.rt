@@ -58,7 +58,8 @@ pub trait Desk {
     // All that it knows is synced.
     fn sync(&mut self) -> Result<(), Unplayed>
         ensures answer { MatchResult result (λ _. unsynced self.new → ⊥) (λ e. Undone e (λ _. ⊥) (shut self.new)) }
-        ensures keeps { (k : Kept) → keeps self.old k → MatchResult result (λ _. keeps self.new (synced k)) (Rests (keeps self.new) k) };
+        ensures keeps { (k : Kept) → keeps self.old k → MatchResult result (λ _. keeps self.new (synced k)) (Rests (keeps self.new) k) }
+        ensures known { (k : Kept) → keeps self.old k → OnOk result (state self.new ≡ state_in k) };
 
     // Syncs, and writes a letter for one that has what a summary says.
     fn write(&mut self, has: &Summary, page: &mut Page) -> Result<(), Unplayed>

@@ -101,6 +101,7 @@ impl<J: Journal + Drop> Desk for Station<J> {
             (Leaves J.Journal.keeps J.Journal.lasts self.old.keeper self.new.keeper) }
         ensures state { state_by self.new.keeper ≡ state_by self.old.keeper }
         ensures keeps { (k : Kept) → InStep J.Journal.keeps self.old.keeper k → MatchResult result (λ _. InStep J.Journal.keeps self.new.keeper (synced k)) (Rests (InStep J.Journal.keeps self.new.keeper) k) }
+        ensures known { (k : Kept) → InStep J.Journal.keeps self.old.keeper k → OnOk result (state_by self.new.keeper ≡ state_in k) }
     {
         self.keeper.sync()?;
         Ok(())

@@ -7,19 +7,18 @@ use Rattle.entry_log.specs.Logs.{all_of}
 use Rattle.entry_log.specs.Vectors.{vector_of}
 use Rattle.journal.specs.History.{state_in, synced}
 use Rattle.journal.specs.Phases.{is_synced}
-use Rattle.network.proofs.Stages.{put_here, state_here}
+use Rattle.network.proofs.Stages.{put_here, some_hut, state_here}
 use Rattle.network.proofs.Stands.{after_sync}
 use Rattle.network.specs.Net.{Event, Net, Syncs, Writes, after, huts}
 use Rattle.network.specs.Stages.{Hut, Unsynced, huts_of, state_at}
-use Rattle.network.specs.Stands.{Stands}
+use Rattle.network.specs.Stands.{Stands, Stays}
+use Rattle.network.specs.declared.act.Act.TheVariants as acts
+use Rattle.network.specs.declared.unplayed.Unplayed.{Unplayed}
+use Rattle.network.specs.declared.unplayed.Unplayed.TheVariants.{Memory, Refused, Failed}
 use Rattle.network.specs.declared.stage.Stage.{Stage}
 use Rattle.replica.specs.Model.{State}
 use Rattle.replica.specs.declared.summary.Summary.{Summary}
 use Rattle.rehearsal.specs.Carrying.{PlacedAt, sends}
-
-some_hut : (qs : List Hut) (p : ℕ) → p < length qs → Hut
-some_hut [] p within = absurd (omega (arith, within))
-some_hut (q ∷ qs) p within = q
 
 -- a replica that is synced does not wait to be
 not_unsynced :
@@ -78,6 +77,11 @@ shows_synced s p r P within synced none told =
     (subst (λ x. MatchOption x ((length (huts_of s) ≤ p) ⊎ Unsynced (huts_of s) p) P) none told)
 
 -- where no letter is written the sender is as it was, or synced
+pub not_sent : (h : ℕ) (has : Summary) (e : Unplayed) (more : List Event) → Stays h (acts.Write has) e more → (more ≡ []) ⊎ (more ≡ Syncs h ∷ [])
+not_sent h has Memory more stays = stays
+not_sent h has (Refused w) more stays = inl stays
+not_sent h has (Failed f) more stays = absurd stays
+
 pub unsent :
     (t : Stage) (es more later : List Event) (from to : ℕ) → more ≡ Syncs to ∷ [] → (later ≡ []) ⊎ (later ≡ Syncs from ∷ []) → Stands t ((es ++ more) ++ later)
     → Stands t es ⊎ Stands t (es ++ Syncs to ∷ []) ⊎ Stands t (es ++ Syncs to ∷ Syncs from ∷ [])
