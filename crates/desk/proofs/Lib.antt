@@ -1,3 +1,4 @@
 pub mod Gotten
 pub mod Lawful
 pub mod Lines
+pub mod Serving

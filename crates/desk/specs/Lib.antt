@@ -1,5 +1,6 @@
 pub mod Failures
 pub mod Laws
+pub mod Guests
 pub mod Replies
 pub mod Said
 pub mod Steps

@@ -1,5 +1,6 @@
 -- What is told of a line, by what the replica knew before it and what it knows then.
-use Rattle.std.specs.Prelude.{◌≡◌, ℕ, ◌-◌, ◌<◌, true, false, ◌⊎◌, length, None, Some}
+use Rattle.std.specs.Prelude.{◌≡◌, ℕ, ◌-◌, ◌<◌, true, false, ◌⊎◌, cond, List, length, nat_lt, None, Some, Ok}
+use Rattle.std.specs.declared.result.Result.{Result}
 use Rattle.bookings.specs.Books.{book_of}
 use Rattle.bookings.specs.Refusals.{number_of}
 use Rattle.bookings.specs.declared.refusal.Refusal.TheVariants.{Damaged}
@@ -18,6 +19,7 @@ use Rattle.network.specs.declared.unplayed.Unplayed.{Unplayed}
 use Rattle.network.specs.declared.unplayed.Unplayed.TheVariants as unplayed
 use Rattle.replica.specs.Model.{State, make_refusal, next_mark, is_primary}
 use Rattle.desk.specs.Answers.{AskedOk, GotRefused, got_in, night_told, committed_at, ServedBy, ServeRefused}
+use Rattle.desk.specs.Steps.{longest}
 use Rattle.desk.specs.declared.reply.Reply.{Reply}
 use Rattle.desk.specs.declared.reply.Reply.TheVariants as replies
 
@@ -49,6 +51,10 @@ Told was is (commands.Letter c v) r = Fits32 c × StampsFit v.all × (r ≡ repl
 Told was is commands.Take r = (r ≡ replies.Takings) ⊎ (r ≡ replies.Line (answers.Take (Rejected Damaged)))
 Told was is commands.Help r = r ≡ replies.Line (answers.Usage Hut)
 Told was is c r = Shown is c r
+
+-- a letter that was typed: what came of it, unless it has more bytes than any letter, and is damaged
+abbrev pub TypedTold : List ℕ → Result Reply Unplayed → Type 0
+TypedTold bs r = r ≡ Ok (cond (nat_lt longest (length bs)) (replies.Line (answers.Take (Rejected Damaged))) replies.Takings)
 
 -- by which number it is refused, and just when
 abbrev pub Denied : State → State → Command → ℕ → Type 0

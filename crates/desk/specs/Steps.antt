@@ -1,39 +1,65 @@
 -- What a call leaves that is not done, and what a line leaves that is done.
-use Rattle.std.specs.Prelude.{◌≡◌, ℕ, ◌<◌, ◌≤◌, ◌⊎◌, List, map, length, Option}
+use Rattle.std.specs.Prelude.{◌≡◌, ℕ, ◌≤◌, ◌⊎◌, cond, List, map, length, nat_lt, Option}
 use Rattle.console.specs.Requests.{asked}
 use Rattle.console.specs.declared.command.Command.{Command}
 use Rattle.console.specs.declared.command.Command.TheVariants as commands
-use Rattle.journal.specs.History.{Kept, synced, makes, commits}
+use Rattle.journal.specs.History.{Kept, synced, makes}
 use Rattle.journal.specs.Keeping.{Moves, Lasts}
 use Rattle.journal.specs.declared.keeper.Keeper.{Keeper}
 use Rattle.letters.specs.Items.{items_of}
 use Rattle.letters.specs.Letters.{encode_letter, read_letter}
+use Rattle.network.specs.Effects.{commits_synced}
 use Rattle.network.specs.Taking.{letter_for, outcomes_of, plain_outcome, take_bytes, told_out}
 use Rattle.network.specs.declared.outcome.Outcome.{Outcome}
 use Rattle.network.specs.declared.unplayed.Unplayed.{Unplayed}
 use Rattle.network.specs.declared.unplayed.Unplayed.TheVariants.{Memory, Refused, Failed}
 use Rattle.replica.specs.Model.{State}
 
--- what is refused changes nothing; where the journal fails, what was synced lasts
+-- what is refused changes nothing; where the journal fails, what was synced lasts; memory is never wanted
 abbrev pub Leaves : {J : Type 0} → (J → List ℕ → ℕ → Type 0) → (J → List ℕ → Type 0) → Keeper J → Keeper J → Unplayed → Type 0
-Leaves keeps lasts before after Memory = Unit {0}
+Leaves keeps lasts before after Memory = ⊥
 Leaves keeps lasts before after (Refused why) = Moves keeps before after (λ k. k)
 Leaves keeps lasts before after (Failed fault) = Lasts keeps lasts before after
 
--- of what was kept: a call that is not done leaves all, or all of it synced, unless the journal fails
-abbrev pub Rests : (Kept → Type 0) → Kept → Unplayed → Type 0
-Rests keeps k Memory = keeps k ⊎ keeps (synced k)
-Rests keeps k (Refused why) = keeps k ⊎ keeps (synced k)
-Rests keeps k (Failed fault) = Unit
+-- of what was kept: a refusal makes this of it; for want of memory all is as it was, or synced; and where the journal fails nothing is said
+abbrev pub RestsAs : (Kept → Type 0) → Kept → (refused : Kept) → Unplayed → Type 0
+RestsAs keeps k refused Memory = keeps k ⊎ keeps (synced k)
+RestsAs keeps k refused (Refused why) = keeps refused
+RestsAs keeps k refused (Failed fault) = Unit
 
--- what a line leaves of what was kept: one that shows something leaves all, or all of it synced, and one with more bytes than any letter may be left
-abbrev pub LineLeaves : (Kept → Type 0) → Command → (letter : List ℕ) → Kept → Type 0
-LineLeaves keeps (commands.Make q) bs k = keeps (synced (makes (asked q) k))
-LineLeaves keeps commands.Ink bs k = keeps (commits k) ⊎ keeps (synced (commits k))
-LineLeaves keeps (commands.Letter c v) bs k = keeps (synced k)
-LineLeaves keeps commands.Take bs k = keeps (take_bytes bs k) ⊎ ((98345 < length bs) × keeps k)
-LineLeaves keeps commands.Help bs k = keeps k
-LineLeaves keeps _ bs k = keeps k ⊎ keeps (synced k)
+-- what is refused leaves all as it was
+abbrev pub Rests : (Kept → Type 0) → Kept → Unplayed → Type 0
+Rests keeps k = RestsAs keeps k k
+
+-- so many bytes has the longest letter
+abbrev pub longest : ℕ
+longest = 98345
+
+-- a letter that is typed; one with more bytes than any letter may have is not read
+abbrev pub takes_typed : List ℕ → Kept → Kept
+takes_typed bs k = cond (nat_lt longest (length bs)) k (take_bytes bs k)
+
+-- what is shown is synced first, also where nothing is shown then but a refusal
+abbrev pub shows : Command → Kept → Kept
+shows commands.Pass k = k
+shows _ k = synced k
+
+-- what a line makes of what was kept, where it is done, and where it is refused
+abbrev pub line_makes : Command → (letter : List ℕ) → Kept → Kept
+line_makes (commands.Make q) bs k = synced (makes (asked q) k)
+line_makes commands.Ink bs k = commits_synced k
+line_makes (commands.Letter c v) bs k = synced k
+line_makes commands.Take bs k = takes_typed bs k
+line_makes commands.Help bs k = k
+line_makes c bs k = shows c k
+
+abbrev pub line_refused : Command → Kept → Kept
+line_refused (commands.Make q) k = k
+line_refused commands.Ink k = k
+line_refused (commands.Letter c v) k = k
+line_refused commands.Take k = k
+line_refused commands.Help k = k
+line_refused c k = shows c k
 
 -- what stands on the page: the letter that a line asks for
 abbrev pub LineWrites : List ℕ → Command → State → Type 0
@@ -43,5 +69,5 @@ LineWrites page _ s = Unit
 -- how many entries of a letter that came were kept out, and what came of the others
 abbrev pub LineBrings : Option ℕ → List Outcome → Command → (letter : List ℕ) → Kept → Type 0
 LineBrings kept_out came commands.Take bs k =
-    length bs ≤ 98345 → (kept_out ≡ told_out (read_letter bs)) × (map plain_outcome came ≡ outcomes_of (items_of (read_letter bs)) k)
+    length bs ≤ longest → (kept_out ≡ told_out (read_letter bs)) × (map plain_outcome came ≡ outcomes_of (items_of (read_letter bs)) k)
 LineBrings kept_out came _ bs k = Unit

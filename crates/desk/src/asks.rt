@@ -1,16 +1,19 @@
 // What a line asks for is done.
-ghost use Rattle.std.specs.Prelude.{◌≡◌, ◌≤◌, ◌⊎◌, length, Ok, Err, MatchResult, OnOk};
+ghost use Rattle.std.specs.Prelude.{◌≡◌, Ok, Err, MatchResult, OnOk};
 ghost use Rattle.bookings.specs.Refusals.{number_of};
 ghost use Rattle.console.specs.Requests.{asked};
 ghost use Rattle.console.specs.Checks.{Fits32, StampsFit};
 ghost use Rattle.console.specs.Hexes.{bytes_of};
 ghost use Rattle.console.specs.declared.answer.Answer.TheVariants.{Refused as RefusedAnswer};
 ghost use Rattle.console.specs.declared.command.Command.TheVariants as commands;
-ghost use Rattle.desk.specs.Steps.{LineLeaves, LineWrites, LineBrings, Rests};
-ghost use Rattle.desk.specs.Replies.{Shown, Hidden, Told, Untold};
-ghost use Rattle.desk.specs.declared.reply.Reply.TheVariants.{Line, Takings};
-ghost use Rattle.journal.specs.History.{Kept, synced, makes, commits};
+ghost use Rattle.desk.specs.Guests.{LineServes};
+ghost use Rattle.desk.specs.Steps.{LineBrings, LineWrites, Rests, RestsAs, line_makes, line_refused, shows, takes_typed};
+ghost use Rattle.desk.specs.Replies.{Shown, Hidden, Told, TypedTold, Untold};
+ghost use Rattle.desk.specs.declared.reply.Reply.TheVariants.{Line};
+ghost use Rattle.journal.specs.History.{Kept, synced, makes};
 ghost use Rattle.letters.specs.Letters.{encode_letter};
+ghost use Rattle.network.specs.Effects.{commits_synced};
+ghost use Rattle.network.specs.Net.{Guest};
 ghost use Rattle.network.specs.Taking.{letter_for};
 ghost use Rattle.network.specs.declared.unplayed.Unplayed.TheVariants.{Memory, Refused, Failed};
 ghost use Rattle.replica.specs.Views.{state_of};
@@ -43,10 +46,11 @@ pub fn ask<D: Desk>(
     ensures answer { MatchResult result
         (Told (D.state desk.old) (D.state desk.new) command.now)
         (Untold (D.state desk.old) (D.state desk.new) (D.shut desk.new) command.now) }
-    ensures leaves { (k : Kept) → D.keeps desk.old k → MatchResult result (λ _. LineLeaves (D.keeps desk.new) command.now (bytes_of letter.entry.digits.now) k) (Rests (D.keeps desk.new) k) }
+    ensures leaves { (k : Kept) → D.keeps desk.old k → MatchResult result (λ _. D.keeps desk.new (line_makes command.now (bytes_of letter.entry.digits.now) k)) (RestsAs (D.keeps desk.new) k (line_refused command.now k)) }
     ensures writes { OnOk result (LineWrites page.new.bytes.items command.now (D.state desk.old)) }
     ensures brings { (k : Kept) → D.keeps desk.old k → OnOk result (LineBrings (D.kept_out desk.new) (D.came desk.new) command.now (bytes_of letter.entry.digits.now) k) }
-    ensures taken { command.now ≡ commands.Take → OnOk result (length (bytes_of letter.entry.digits.now) ≤ 98345 → result ≡ Ok Takings) }
+    ensures serves { (k : Kept) (guest : Guest) → D.keeps desk.old k → LineServes command.now result guest k }
+    ensures taken { command.now ≡ commands.Take → OnOk result (TypedTold (bytes_of letter.entry.digits.now) result) }
 {
     match command {
         Command::Make { request } => make(desk, request),
@@ -88,7 +92,7 @@ fn make<D: Desk>(desk: &mut D, request: &Request) -> Result<Reply, Unplayed>
 
 // What was committed stands last of all that is.
 fn commit<D: Desk>(desk: &mut D) -> Result<Reply, Unplayed>
-    ensures keeps { (k : Kept) → D.keeps desk.old k → MatchResult result (λ _. D.keeps desk.new (commits k) ⊎ D.keeps desk.new (synced (commits k))) (Rests (D.keeps desk.new) k) }
+    ensures keeps { (k : Kept) → D.keeps desk.old k → MatchResult result (λ _. D.keeps desk.new (commits_synced k)) (Rests (D.keeps desk.new) k) }
     ensures answer { MatchResult result
         (Told (D.state desk.old) (D.state desk.new) commands.Ink)
         (Untold (D.state desk.old) (D.state desk.new) (D.shut desk.new) commands.Ink) }
@@ -136,8 +140,8 @@ fn summary(committed: u64, vector: &RawVector) -> Result<Summary, Refusal>
 
 // A letter comes. One that has more bytes than any letter is none.
 fn hear<D: Desk>(desk: &mut D, page: &mut Page, letter: Hex) -> Result<Reply, Unplayed>
-    ensures taken { OnOk result (length (bytes_of letter.entry.digits.now) ≤ 98345 → result ≡ Ok Takings) }
-    ensures keeps { (k : Kept) → D.keeps desk.old k → MatchResult result (λ _. LineLeaves (D.keeps desk.new) commands.Take (bytes_of letter.entry.digits.now) k) (Rests (D.keeps desk.new) k) }
+    ensures taken { OnOk result (TypedTold (bytes_of letter.entry.digits.now) result) }
+    ensures keeps { (k : Kept) → D.keeps desk.old k → MatchResult result (λ _. D.keeps desk.new (takes_typed (bytes_of letter.entry.digits.now) k)) (Rests (D.keeps desk.new) k) }
     ensures report { (k : Kept) → D.keeps desk.old k → OnOk result (LineBrings (D.kept_out desk.new) (D.came desk.new) commands.Take (bytes_of letter.entry.digits.now) k) }
     ensures answer { MatchResult result
         (Told (D.state desk.old) (D.state desk.new) commands.Take)
@@ -154,7 +158,8 @@ fn hear<D: Desk>(desk: &mut D, page: &mut Page, letter: Hex) -> Result<Reply, Un
 
 // What is shown is synced first, also where the answer is a refusal.
 fn show<D: Desk>(desk: &mut D, command: &Command) -> Result<Reply, Unplayed>
-    ensures keeps { (k : Kept) → D.keeps desk.old k → MatchResult result (λ _. D.keeps desk.new k ⊎ D.keeps desk.new (synced k)) (Rests (D.keeps desk.new) k) }
+    ensures keeps { (k : Kept) → D.keeps desk.old k → MatchResult result (λ _. D.keeps desk.new (shows command.now k)) (RestsAs (D.keeps desk.new) k (shows command.now k)) }
+    ensures serves { (k : Kept) (guest : Guest) → D.keeps desk.old k → LineServes command.now result guest k }
     ensures answer { MatchResult result
         (Shown (D.state desk.new) command.now)
         (λ e. elim e [ Memory ↦ ⊥ | Refused w ↦ Hidden (D.state desk.new) command.now (number_of w) | Failed f ↦ D.shut desk.new ]) }

@@ -1,13 +1,14 @@
 // What the lines of a hut call.
-ghost use Rattle.std.specs.Prelude.{◌≡◌, ℕ, true, false, ◌⊎◌, List, map, None, Some, Option, MatchOption, MatchResult, OnOk};
+ghost use Rattle.std.specs.Prelude.{◌≡◌, ℕ, true, false, List, map, None, Some, Option, MatchOption, MatchResult, IfOk, OnOk};
 ghost use Rattle.std.specs.Option.{option_map};
 ghost use Rattle.bookings.specs.Plain.{plain_kind, plain_mark};
 ghost use Rattle.desk.specs.Failures.{Undone, Unwritten};
 ghost use Rattle.desk.specs.Steps.{Rests};
 ghost use Rattle.entry_log.specs.Logs.{first_mark};
-ghost use Rattle.journal.specs.History.{Kept, synced, makes, commits};
+ghost use Rattle.journal.specs.History.{Kept, makes, state_in, synced};
 ghost use Rattle.letters.specs.Items.{items_of};
 ghost use Rattle.letters.specs.Letters.{encode_letter, read_letter};
+ghost use Rattle.network.specs.Effects.{commits_synced};
 ghost use Rattle.network.specs.Taking.{letter_for, outcomes_of, plain_outcome, take_bytes, told_out};
 ghost use Rattle.network.specs.declared.outcome.Outcome.{Outcome};
 ghost use Rattle.replica.specs.Model.{State, make_refusal, next_mark, is_primary};
@@ -20,7 +21,7 @@ use network::unplayed::Unplayed;
 use replica::replica::Replica;
 use replica::summary::Summary;
 
-// A replica over its journal, on a disk or in a rehearsal. What is not done leaves it as it was, or synced.
+// A replica over its journal, on a disk or in a rehearsal. What is refused leaves it as it was.
 pub trait Desk {
     // What its replica knows.
     ghost state: { Self → State };
@@ -51,12 +52,14 @@ pub trait Desk {
         ensures answer { MatchResult result
             (λ m. (is_primary (state self.old) ≡ true) × (option_map plain_mark m ≡ first_mark (state self.old).log.tentative))
             (λ e. Undone e (λ n. (is_primary (state self.old) ≡ false) × (n ≡ 6)) (shut self.new)) }
-        ensures keeps { (k : Kept) → keeps self.old k → MatchResult result (λ _. keeps self.new (commits k) ⊎ keeps self.new (synced (commits k))) (Rests (keeps self.new) k) };
+        ensures keeps { (k : Kept) → keeps self.old k → MatchResult result (λ _. keeps self.new (commits_synced k)) (Rests (keeps self.new) k) }
+        ensures first { (k : Kept) → keeps self.old k → IfOk result (λ m. option_map plain_mark m ≡ first_mark (state_in k).log.tentative) };
 
     // All that it knows is synced.
     fn sync(&mut self) -> Result<(), Unplayed>
         ensures answer { MatchResult result (λ _. unsynced self.new → ⊥) (λ e. Undone e (λ _. ⊥) (shut self.new)) }
-        ensures keeps { (k : Kept) → keeps self.old k → MatchResult result (λ _. keeps self.new (synced k)) (Rests (keeps self.new) k) };
+        ensures keeps { (k : Kept) → keeps self.old k → MatchResult result (λ _. keeps self.new (synced k)) (Rests (keeps self.new) k) }
+        ensures known { (k : Kept) → keeps self.old k → OnOk result (state self.new ≡ state_in k) };
 
     // Syncs, and writes a letter for one that has what a summary says.
     fn write(&mut self, has: &Summary, page: &mut Page) -> Result<(), Unplayed>
@@ -71,9 +74,9 @@ pub trait Desk {
         ensures report { (k : Kept) → keeps self.old k → OnOk result
             ((kept_out self.new ≡ told_out (read_letter bytes.now)) × (map plain_outcome (came self.new) ≡ outcomes_of (items_of (read_letter bytes.now)) k)) };
 
-    // The replica, to be shown: none where something of it is not synced.
+    // The replica, to be shown: none where something of it is not synced, and just there.
     fn shown(&self) -> Option<&Replica>
-        ensures { MatchOption result (unsynced self.now) (λ p. state_of p.now ≡ state self.now) };
+        ensures { MatchOption result (unsynced self.now) (λ p. (state_of p.now ≡ state self.now) × (unsynced self.now → ⊥)) };
 
     // What came of the entries of the letter that came last, in its order.
     fn outcomes(&self) -> &[Outcome]

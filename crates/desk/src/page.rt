@@ -39,10 +39,13 @@ impl Page {
     // Has the bytes that digits write, and nothing else; unless they are more than any letter has.
     pub fn decode(&mut self, letter: Hex) -> Result<(), NoRoom>
         ensures { MatchResult result
-            (λ _. self.new.bytes.items ≡ bytes_of letter.entry.digits.now)
+            (λ _. (length (bytes_of letter.entry.digits.now) ≤ 98345) × (self.new.bytes.items ≡ bytes_of letter.entry.digits.now))
             (λ _. 98345 < length (bytes_of letter.entry.digits.now)) }
     {
         self.bytes.clear();
+        if letter.len() > LETTER_ROOM {
+            return Err(NoRoom);
+        }
         letter.decode(&mut self.bytes)
     }
 }

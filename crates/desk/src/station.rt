@@ -1,15 +1,16 @@
 // A replica over its journal, with all that its lines need.
-ghost use Rattle.std.specs.Prelude.{◌≡◌, ◌⊎◌, true, false, [], Some, IfOk, MatchOption, MatchResult, OnOk};
+ghost use Rattle.std.specs.Prelude.{◌≡◌, true, false, [], Some, IfOk, MatchOption, MatchResult, OnOk};
 ghost use Rattle.std.specs.Option.{option_map};
 ghost use Rattle.bookings.specs.Plain.{plain_kind, plain_mark};
 ghost use Rattle.desk.specs.Failures.{Undone, Unwritten};
 ghost use Rattle.desk.specs.Steps.{Leaves, Rests};
 ghost use Rattle.entry_log.specs.Logs.{first_mark};
-ghost use Rattle.journal.specs.History.{Kept, synced, makes, commits};
+ghost use Rattle.journal.specs.History.{Kept, synced, makes, commits, state_in};
 ghost use Rattle.journal.specs.Keeping.{InStep, Moves, state_by};
 ghost use Rattle.letters.specs.Laws.{LetterOk};
 ghost use Rattle.letters.specs.Letters.{encode_letter, read_letter};
 ghost use Rattle.network.specs.declared.unplayed.Unplayed.TheVariants.{Memory, Refused, Failed};
+ghost use Rattle.network.specs.Effects.{commits_synced};
 ghost use Rattle.network.specs.Taking.{Reports, letter_for, take_bytes};
 ghost use Rattle.replica.specs.Model.{make_refusal, next_mark, is_primary};
 
@@ -85,7 +86,8 @@ impl<J: Journal + Drop> Desk for Station<J> {
             (Moves J.Journal.keeps self.old.keeper self.new.keeper commits)
             (λ _. Moves J.Journal.keeps self.old.keeper self.new.keeper (λ k. synced (commits k))))
             (Leaves J.Journal.keeps J.Journal.lasts self.old.keeper self.new.keeper) }
-        ensures keeps { (k : Kept) → InStep J.Journal.keeps self.old.keeper k → MatchResult result (λ _. InStep J.Journal.keeps self.new.keeper (commits k) ⊎ InStep J.Journal.keeps self.new.keeper (synced (commits k))) (Rests (InStep J.Journal.keeps self.new.keeper) k) }
+        ensures keeps { (k : Kept) → InStep J.Journal.keeps self.old.keeper k → MatchResult result (λ _. InStep J.Journal.keeps self.new.keeper (commits_synced k)) (Rests (InStep J.Journal.keeps self.new.keeper) k) }
+        ensures first { (k : Kept) → InStep J.Journal.keeps self.old.keeper k → IfOk result (λ m. option_map plain_mark m ≡ first_mark (state_in k).log.tentative) }
     {
         Ok(self.keeper.commit()?)
     }
@@ -99,6 +101,7 @@ impl<J: Journal + Drop> Desk for Station<J> {
             (Leaves J.Journal.keeps J.Journal.lasts self.old.keeper self.new.keeper) }
         ensures state { state_by self.new.keeper ≡ state_by self.old.keeper }
         ensures keeps { (k : Kept) → InStep J.Journal.keeps self.old.keeper k → MatchResult result (λ _. InStep J.Journal.keeps self.new.keeper (synced k)) (Rests (InStep J.Journal.keeps self.new.keeper) k) }
+        ensures known { (k : Kept) → InStep J.Journal.keeps self.old.keeper k → OnOk result (state_by self.new.keeper ≡ state_in k) }
     {
         self.keeper.sync()?;
         Ok(())

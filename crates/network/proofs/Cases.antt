@@ -26,7 +26,7 @@ six_cases k d within =
 played : (r : Row) → answer_of r ≡ r.answer → Played r
 played r is s p stands within same =
     ap (λ x. asked x (net.after r.events).sent r.question)
-    (state_kept s s p within r.events stands (huts_of s) refl ∙ ap (λ h. state_in ((net.after r.events).hut h)) same)
+    (state_kept s s p within r.events stands ∙ ap (λ h. state_in ((net.after r.events).hut h)) same)
     ∙ is
 
 pub six_cases_played : SixCasesPlayed

@@ -11,6 +11,8 @@ pub mod Agree
 pub mod Alone
 mod Cases
 pub mod Counting
+mod Crashes
+pub mod Effects
 pub mod Exchange
 pub mod Fair
 pub mod FairRuns
@@ -21,6 +23,7 @@ pub mod Guests
 pub mod Handed
 pub mod Handing
 mod Harmless
+pub mod Hosting
 pub mod Histories
 pub mod Holds
 pub mod Huts

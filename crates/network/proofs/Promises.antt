@@ -15,7 +15,7 @@ use Rattle.network.proofs.Same.{same_log}
 use Rattle.network.proofs.Settling.{synced_settles}
 use Rattle.network.proofs.Sessions.{monotonic_reads, monotonic_writes, read_your_writes, writes_follow_reads}
 use Rattle.network.proofs.Shown.{committed_outcome, found_stays, shown_stays}
-use Rattle.network.proofs.Slipping.{behind_covered, covered_stays, served_stays}
+use Rattle.network.proofs.Slipping.{behind_covered, covered_stays, served_stays, serves_again}
 use Rattle.network.proofs.WalksAgree.{any_walks_agree}
 use Rattle.network.proofs.WalksBring.{walks_bring}
 use Rattle.network.proofs.Whole.{letters_bring, taken-whole}
@@ -42,6 +42,7 @@ promised es =
       slips_say = slips_say es;
       covered_stays = covered_stays es;
       served_stays = served_stays es;
+      serves_again = serves_again es;
       behind_covered = behind_covered es;
       letters_bring = letters_bring es;
       taken-whole = taken-whole es;

@@ -11,7 +11,8 @@ use Rattle.network.specs.Net.{Event}
 use Rattle.network.specs.Reached.{Followed, Reached, Promises}
 use Rattle.network.specs.Stages.{Follows, Never, Turns, Unwritten, bytes_sent, huts_of, SameHuts}
 use Rattle.network.specs.Taking.{take_bytes, told_out}
-use Rattle.network.specs.Stands.{Stands, Went}
+use Rattle.network.specs.Stands.{Forged, Stands, Went}
+use Rattle.network.specs.Stands.{Heard as SoHeard}
 use Rattle.network.specs.declared.act.Act.{Act}
 use Rattle.network.specs.declared.act.Done.{Done}
 use Rattle.network.specs.declared.stage.Stage.{Stage}
@@ -52,6 +53,10 @@ told_none (heard place cs ws out) none = absurd (false≢true none)
 none_told : (h : Heard) → h ≡ damaged → not (is_some (told_out h)) ≡ true
 none_told h none = ap (λ x. not (is_some (told_out x))) none
 
+some_told : (h : Heard) → (h ≡ damaged → ⊥) → not (is_some (told_out h)) ≡ false
+some_told damaged none = absurd (none refl)
+some_told (heard place cs ws out) none = refl
+
 -- a letter is not forged where one of the huts wrote it, or where it is none
 unforged : (forged written is_none : Bool) → (forged || not (written || is_none)) ≡ false → (forged ≡ false) × ((written ≡ true) ⊎ (is_none ≡ true))
 unforged false true is_none honest = (refl, inl refl)
@@ -80,6 +85,20 @@ module _ (s t : Stage) (i : ℕ) (bs : List ℕ) (found rejected : Option ℕ) (
       found_some None none = absurd (known none)
       found_some (Some l) there = refl
 
+  pub made_forged :
+      MatchOption found (Unwritten (bytes_sent s) bs) (λ l. (l < length (bytes_sent s)) × (get_or (bytes_sent s) l [] ≡ bs)) → (forged ≡ true) ⊎ Forged (bytes_sent s) bs
+      → (forged || not (written || is_none)) ≡ true
+  made_forged where-found (inl already) = rw already refl
+  made_forged where-found (inr new) = rw (written-is ∙ found_none found where-found, told ∙ some_told (read_letter bs) new.1) (either forged)
+    where
+      found_none : (r : Option ℕ) → MatchOption r (Unwritten (bytes_sent s) bs) (λ l. (l < length (bytes_sent s)) × (get_or (bytes_sent s) l [] ≡ bs)) → is_some r ≡ false
+      found_none None none = refl
+      found_none (Some l) there = absurd (new.0 l there.0 there.1)
+
+      either : (b : Bool) → (b || true) ≡ true
+      either true = refl
+      either false = refl
+
   pub heard_reached :
       i < length (huts_of s) → bytes_sent t ≡ bytes_sent s → Turns (huts_of s) (huts_of t) i (take_bytes bs)
       → MatchOption found (Unwritten (bytes_sent s) bs) (λ l. (l < length (bytes_sent s)) × (get_or (bytes_sent s) l [] ≡ bs))
@@ -95,6 +114,15 @@ module _ (s t : Stage) (i : ℕ) (bs : List ℕ) (found rejected : Option ℕ) (
       of_letter None there known es stands = absurd (false≢true known)
       of_letter (Some l) there known es stands =
           (_, took s t i within es stands l letters there.0 (subst (λ (x : List ℕ). Turns (huts_of s) (huts_of t) i (take_bytes x)) (sym there.1) turns))
+
+-- what has come of those bytes
+pub heard_so :
+    (s t : Stage) (i : ℕ) (bs : List ℕ) → i < length (huts_of s) → bytes_sent t ≡ bytes_sent s → Turns (huts_of s) (huts_of t) i (take_bytes bs)
+    → (es : List Event) → Stands s es → SoHeard s t i bs es
+heard_so s t i bs within letters turns es stands = (
+  λ nth there same. took s t i within es stands nth letters there (subst (λ (x : List ℕ). Turns (huts_of s) (huts_of t) i (take_bytes x)) (sym same) turns),
+  λ none. heard_nothing s t i within es stands bs letters none turns,
+)
 
 pub never_fails : (s : Stage) → Followed s → Never (huts_of s) → ⊥
 never_fails s followed never = ∥∥₁_elim followed (hlevel props) (λ w. never w.0 w.1)

@@ -1,20 +1,20 @@
 -- What a slip covers stays known where it is served, and stands before what is made there.
-use Rattle.std.proofs.Common.{◌≡◌, ℕ, ◌<◌, true, ltb, List, [], ◌∷◌, None, Option, sym, refl, subst, inl, inr, arith, lt→ltb}
+use Rattle.std.proofs.Common.{◌≡◌, ℕ, ◌<◌, true, ltb, List, [], ◌∷◌, length, None, Option, sym, refl, subst, inl, inr, arith, lt→ltb}
 use mathlib.Core.List.Memᴰ
 use Rattle.std.proofs.lemmas.Bool.{eq-eqb}
 use Rattle.bookings.specs.Plain.{PlainEntry, PlainKind}
 use Rattle.entry_log.proofs.Stamps.{vector_at}
-use Rattle.entry_log.specs.Vectors.{covers, vector_of}
+use Rattle.entry_log.specs.Vectors.{covers, joined_with, vector_of}
 use Rattle.journal.specs.History.{PlainRecord, Tentative, history_of, makes, state_in, synced, unless, wrote}
 use Rattle.replica.specs.Model.{entry_made, make_refusal}
 use Rattle.network.specs.Net.{Makes, Net, Syncs, after, huts, run, step, with_hut}
 use Rattle.network.specs.Promise.{Always}
 use Rattle.network.specs.Replicas.{entries_of}
-use Rattle.network.specs.Slips.{BehindCovered, Covered, CoveredStays, ServedStays}
+use Rattle.network.specs.Slips.{BehindCovered, Covered, CoveredStays, ServedStays, ServesAgain}
 use Rattle.network.proofs.Holds.{durables, histories, huts_of}
 use Rattle.network.proofs.Knowing.{Huts, behind, known_here, known_then, made-own, made_order}
 use Rattle.network.proofs.Marks.{◌∈◌}
-use Rattle.network.proofs.Numbers.{covers_all, covers_at, highest_more, highest_one}
+use Rattle.network.proofs.Numbers.{covers_all, covers_at, highest_more, highest_one, joined_at}
 use Rattle.network.proofs.Parts.{Older, older_self, older_trans}
 use Rattle.network.proofs.Safety.{after_holds, lasts}
 use Rattle.network.proofs.Steps.{run_becomes, step_becomes}
@@ -74,6 +74,14 @@ served_stays es i slip low t later =
       vector_at (entries_of (H.hist i)) h lt,
       highest_more (entries_of (histories n i)) (entries_of (H.hist i)) h more,
     ))
+
+-- so does the slip that is answered
+answered : (v slip : List ℕ) → length slip ≡ huts → covers v slip ≡ true → covers v (joined_with slip v) ≡ true
+answered v slip long t = covers_all v (joined_with slip v) (λ h lt. omega (arith, joined_at slip v h long lt, covers_at v slip t h lt))
+
+pub serves_again : Always ServesAgain
+serves_again es i slip low long t later =
+    let v = vector_of (entries_of (histories (after es) i)) in served_stays es i (joined_with slip v) low (answered v slip long t) later
 
 -- the hut's history has the entry, just behind what it knew
 pub made_there :

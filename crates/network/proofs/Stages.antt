@@ -8,7 +8,6 @@ use Rattle.std.specs.List.{AllWithin, HoldsAt}
 use Rattle.std.specs.Result.{IsErrAnd}
 use Rattle.std.proofs.lemmas.List.{get_or-map, get_or-set_other, map-set, length-map, length-set}
 use Rattle.bookings.specs.Plain.{PlainEntry, PlainKind}
-use Rattle.bookings.specs.declared.entry.Mark.{Mark}
 use Rattle.entry_log.specs.Logs.{first_entry}
 use Rattle.journal.specs.History.{Kept, Tentative, commits, commits_entry, makes, state_in, synced, wrote}
 use Rattle.journal.specs.Keeping.{InStep, InMemory, Moves, state_by, most_bytes}
@@ -42,6 +41,11 @@ put_elsewhere i j x f other = ap (λ b. cond b x (f j)) (ne_eqb j i other)
 
 pub put_same : {A : Type 0} (i : ℕ) (f : ℕ → A) (j : ℕ) → f j ≡ put i (f i) f j
 put_same i f j = elim (cases_eq j i) [ inl same ↦ ap f same ∙ sym (put_here i j (f i) f same) | inr other ↦ sym (put_elsewhere i j (f i) f other) ]
+
+-- there is a replica at a place
+pub some_hut : (qs : List Hut) (i : ℕ) → i < length qs → Hut
+some_hut [] i within = absurd (omega (arith, within))
+some_hut (q ∷ qs) i within = q
 
 -- the state of a replica that is read at its place
 pub state_here : (qs : List Hut) (i : ℕ) (q : Hut) → i < length qs → q ≡ get_or qs i q → state_at qs i ≡ state_by q
@@ -130,19 +134,12 @@ module _ (qs : List Hut) (i : ℕ) (q p : Hut) (within : i < length qs) (is : q 
   turned_back L (Failed f) moves sure = λ kept follows.
       sure (kept (hut_at qs i)) (was qs i q p kept within is follows) (subst (λ (t : Hut). most_bytes < vec_capacity t.journal.medium.held) (sym is) (follows.room i q within))
 
-  -- what is committed is synced, and where there was nothing to commit nothing is written
-  pub turned_either :
-      (m : Option Mark) → MatchOption m (Moves InMemory q p commits) (λ _. Moves InMemory q p (λ k. synced (commits k)))
-      → Turns qs (set qs i p) i commits ⊎ Turns qs (set qs i p) i (λ k. synced (commits k))
-  turned_either None moves = inl (turned commits commits_steady moves)
-  turned_either (Some m) moves = inr (turned (λ k. synced (commits k)) commits_steady moves)
-
 -- the error of a call, handed on
 pub handed_on :
     {X : Type 0} (P : X → Type 0) (qs ps : List Hut) (i : ℕ) (r : Result X Unplayed) (why : Trouble)
     → IsErrAnd r (λ e. elim why as (λ _. Type 0) [ Refused w ↦ e ≡ unplayed.Refused w | Failed f ↦ e ≡ unplayed.Failed f ])
-    → elim why as (λ _. Type 0) [ Refused w ↦ Turns qs ps i (λ k. k) | Failed f ↦ Never qs ] → MatchResult r P (Unmoved qs ps i)
-handed_on P qs ps i r (Refused w) is holds = let p = err_from_is_err_and r is in rw (p.1, p.2) (inl holds)
+    → elim why as (λ _. Type 0) [ Refused w ↦ Turns qs ps i (λ k. k) | Failed f ↦ Never qs ] → MatchResult r P (Unmoved qs ps i (λ k. k))
+handed_on P qs ps i r (Refused w) is holds = let p = err_from_is_err_and r is in rw (p.1, p.2) holds
 handed_on P qs ps i r (Failed f) is holds = let p = err_from_is_err_and r is in rw (p.1, p.2) holds
 
 -- the first letter with some bytes has them, and where none is the first none has

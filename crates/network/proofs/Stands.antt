@@ -1,10 +1,11 @@
 -- What a stage does is what the events of the model do, so that it still stands.
-use Rattle.std.proofs.Common.{◌≡◌, ℕ, zero, suc, ◌<◌, ◌==◌, ◌⊎◌, cond, take, Result, Ok, Err, MatchResult, List, [], ◌∷◌, ◌++◌, map, length, get_or, vec_items, vec_len, ltb, ⊎_elim, append-nil, length-append, lt→ltb, sym, refl, ap, subst, ◌∙◌, inl, inr, arith}
+use Rattle.std.proofs.Common.{◌≡◌, ℕ, zero, suc, ◌<◌, ◌==◌, ◌⊎◌, cond, take, Option, Some, None, Result, Ok, Err, MatchResult, List, [], ◌∷◌, ◌++◌, map, length, get_or, vec_items, vec_len, ltb, ⊎_elim, append-nil, length-append, lt→ltb, sym, refl, ap, subst, ◌∙◌, inl, inr, arith}
 use Rattle.std.specs.Global.{Vec}
-use Rattle.std.proofs.lemmas.Bool.{cases_lt, ne_eqb}
+use Rattle.std.proofs.lemmas.Bool.{cases_lt, le-ltb, ne_eqb}
 use Rattle.std.proofs.lemmas.List.{length-map, get_or-map, get_or_append_left, get_or_push, take_all}
 use Rattle.bookings.specs.Plain.{PlainEntry, PlainKind, plain_kind}
 use Rattle.bookings.specs.declared.entry.Kind.{Kind}
+use Rattle.entry_log.specs.declared.vector.Vector.{Vector}
 use Rattle.journal.specs.History.{Kept, commits, crashed, makes, state_in, synced}
 use Rattle.journal.specs.Keeping.{InStep, InMemory, state_by}
 use Rattle.letters.proofs.Lawful.{cut-damaged, letter_round_trip_lem}
@@ -16,8 +17,9 @@ use Rattle.replica.specs.declared.summary.Summary.{Summary}
 use Rattle.replica.specs.Parcels.{parcel_for}
 use Rattle.network.specs.Items.{Letter, items_taken, words_for}
 use Rattle.network.specs.Net.{Event, Makes, Commits, Syncs, Writes, Takes, Damaged, Crashes, Net, after, among, huts, put, send, step, take_nth, with_hut}
-use Rattle.network.specs.Stages.{Follows, Hut, SameHuts, Turns, Unmoved, state_at, hut_at, huts_of, bytes_for, bytes_sent}
-use Rattle.network.specs.Stands.{Comes, Means, Stands, Went}
+use Rattle.network.specs.Effects.{commits_synced, first_of, refused_of, reopens, synced_if}
+use Rattle.network.specs.Stages.{Follows, Hut, Turns, Unmoved, state_at, hut_at, huts_of, bytes_for, bytes_sent}
+use Rattle.network.specs.Stands.{Comes, Means, Stands, Stays, Went, commit_comes, cut_comes, refusal_comes}
 use Rattle.network.specs.Taking.{letter_for, take_bytes}
 use Rattle.network.specs.declared.act.Act.{Act}
 use Rattle.network.specs.declared.act.Act.TheVariants as acts
@@ -26,12 +28,13 @@ use Rattle.network.specs.declared.act.Done.TheVariants as dones
 use Rattle.network.specs.declared.unplayed.Unplayed.{Unplayed}
 use Rattle.network.specs.declared.unplayed.Unplayed.TheVariants as unplayed
 use Rattle.network.specs.declared.stage.Stage.{Stage}
+use Rattle.network.proofs.Crashes.{reopened}
 use Rattle.network.proofs.Holds.{hut-again}
-use Rattle.network.proofs.Stages.{put_same}
+use Rattle.network.proofs.Stages.{put_same, some_hut}
 use Rattle.network.proofs.Tests.{cond_yes}
 use Rattle.network.proofs.Walk.{after_one, after_two}
 
-among_yes : (h : ℕ) (m n : Net) → h < huts → among h m n ≡ m
+pub among_yes : (h : ℕ) (m n : Net) → h < huts → among h m n ≡ m
 among_yes h m n low = cond_yes (ltb h huts) m n (lt→ltb h huts low)
 
 module _ (es : List Event) (h : ℕ) (low : h < huts) where
@@ -49,11 +52,15 @@ module _ (es : List Event) (h : ℕ) (low : h < huts) where
   pub after_make : (kind : PlainKind) → after (es ++ Makes h kind ∷ Syncs h ∷ []) ≡ with_hut h (synced (makes kind (n.hut h))) n
   after_make kind = then_synced (Makes h kind) (makes kind (n.hut h)) (after_one es (Makes h kind) ∙ among_yes h _ _ low)
 
-  pub after_commit : after (es ++ Commits h ∷ []) ≡ with_hut h (commits (n.hut h)) n
+  after_commit : after (es ++ Commits h ∷ []) ≡ with_hut h (commits (n.hut h)) n
   after_commit = after_one es (Commits h) ∙ among_yes h _ _ low
 
   pub after_committed : after (es ++ Commits h ∷ Syncs h ∷ []) ≡ with_hut h (synced (commits (n.hut h))) n
   after_committed = then_synced (Commits h) (commits (n.hut h)) after_commit
+
+  pub after_first : (first : Option PlainEntry) → after (es ++ commit_comes h first) ≡ with_hut h (synced_if first (commits (n.hut h))) n
+  after_first None = after_commit
+  after_first (Some e) = after_committed
 
   pub after_crash : (lost : ℕ) → after (es ++ Crashes h lost ∷ Syncs h ∷ []) ≡ with_hut h (synced (crashed lost (n.hut h))) n
   after_crash lost = then_synced (Crashes h lost) (crashed lost (n.hut h)) (after_one es (Crashes h lost) ∙ among_yes h _ _ low)
@@ -157,25 +164,39 @@ module _ (s t : Stage) (i : ℕ) (within : i < length (huts_of s)) (es : List Ev
       → Stands t (es ++ more)
   on more step is letters turns = stands_on s t es more h (step (kept h)) is (turns kept stands.follows).0 letters stands
 
-  still_or_synced :
-      bytes_sent t ≡ bytes_sent s → Turns (huts_of s) (huts_of t) i (λ k. k) ⊎ Turns (huts_of s) (huts_of t) i synced
-      → (more : List Event) × Stands t (es ++ more) × ((more ≡ []) ⊎ (more ≡ Syncs h ∷ []))
-  still_or_synced letters (inl turns) = ([], subst (Stands t) (sym (append-nil es)) (stands_still s t es h (turns kept stands.follows).0 letters stands), inl refl)
-  still_or_synced letters (inr turns) = (Syncs h ∷ [], on (Syncs h ∷ []) synced (after_sync es h low) letters turns, inr refl)
+  -- nothing has changed
+  still : bytes_sent t ≡ bytes_sent s → Turns (huts_of s) (huts_of t) i (λ k. k) → Stands t (es ++ [])
+  still letters turns = subst (Stands t) (sym (append-nil es)) (stands_still s t es h (turns kept stands.follows).0 letters stands)
 
-  pub unmoved :
-      (e : Unplayed) → bytes_sent t ≡ bytes_sent s → Unmoved (huts_of s) (huts_of t) i e
-      → (more : List Event) × Stands t (es ++ more) × ((more ≡ []) ⊎ (more ≡ Syncs h ∷ []))
-  unmoved unplayed.Memory letters left = still_or_synced letters left
-  unmoved (unplayed.Refused w) letters left = still_or_synced letters left
-  unmoved (unplayed.Failed f) letters never = absurd (never kept stands.follows)
+  synced_now : bytes_sent t ≡ bytes_sent s → Turns (huts_of s) (huts_of t) i synced → Stands t (es ++ Syncs h ∷ [])
+  synced_now letters turns = on (Syncs h ∷ []) synced (after_sync es h low) letters turns
+
+  -- what is refused
+  refused : (act : Act) → bytes_sent t ≡ bytes_sent s → Turns (huts_of s) (huts_of t) i (refused_of act) → Stands t (es ++ refusal_comes h act)
+  refused (acts.Make kind) letters turns = still letters turns
+  refused acts.Commit letters turns = still letters turns
+  refused acts.Sync letters turns = still letters turns
+  refused (acts.Write has) letters turns = still letters turns
+  refused (acts.Take letter) letters turns = still letters turns
+  refused (acts.Cut letter len) letters turns = still letters turns
+  refused (acts.Crash left) letters turns = still letters turns
+  refused (acts.Visit slip) letters turns = synced_now letters turns
+
+  unmoved :
+      (act : Act) (e : Unplayed) → bytes_sent t ≡ bytes_sent s → Unmoved (huts_of s) (huts_of t) i (refused_of act) e
+      → (more : List Event) × Stands t (es ++ more) × Stays h act e more
+  unmoved act unplayed.Memory letters (inl turns) = (_, still letters turns, inl refl)
+  unmoved act unplayed.Memory letters (inr turns) = (_, synced_now letters turns, inr refl)
+  unmoved act (unplayed.Refused w) letters turns = (_, refused act letters turns, refl)
+  unmoved act (unplayed.Failed f) letters never = absurd (never kept stands.follows)
 
   -- an act that is done or not
-  pub went :
+  went :
       (act : Act) (D : Done → Type 0) (r : Result Done Unplayed) → bytes_sent t ≡ bytes_sent s
-      → ((d : Done) → D d → (more : List Event) × Stands t (es ++ more) × Comes h act more) → MatchResult r D (Unmoved (huts_of s) (huts_of t) i) → Went s t i act r es
+      → ((d : Done) → D d → (more : List Event) × Stands t (es ++ more) × Comes (bytes_sent s) h (kept h) act more)
+      → MatchResult r D (Unmoved (huts_of s) (huts_of t) i (refused_of act)) → Went s t i act r es
   went act D (Ok d) letters done holds = done d holds
-  went act D (Err e) letters done holds = unmoved e letters holds
+  went act D (Err e) letters done holds = unmoved act e letters holds
 
   -- what is done by one step of the replica
   pub stepped :
@@ -185,32 +206,35 @@ module _ (s t : Stage) (i : ℕ) (within : i < length (huts_of s)) (es : List Ev
 
   pub went_make :
       (kind : Kind) (r : Result Done Unplayed) → bytes_sent t ≡ bytes_sent s
-      → MatchResult r (λ _. Turns (huts_of s) (huts_of t) i (λ k. synced (makes (plain_kind kind) k))) (Unmoved (huts_of s) (huts_of t) i) → Went s t i (acts.Make kind) r es
+      → MatchResult r (λ _. Turns (huts_of s) (huts_of t) i (λ k. synced (makes (plain_kind kind) k))) (Unmoved (huts_of s) (huts_of t) i (λ k. k)) → Went s t i (acts.Make kind) r es
   went_make kind r letters =
-      went (acts.Make kind) _ r letters (λ _. stepped _ (λ k. synced (makes (plain_kind kind) k)) (Comes h (acts.Make kind)) (after_make es h low (plain_kind kind)) refl letters)
+      went (acts.Make kind) _ r letters
+      (λ _. stepped _ (λ k. synced (makes (plain_kind kind) k)) (Comes (bytes_sent s) h (kept h) (acts.Make kind)) (after_make es h low (plain_kind kind)) refl letters)
 
   pub went_commit :
-      (r : Result Done Unplayed) → bytes_sent t ≡ bytes_sent s
-      → MatchResult r (λ _. Turns (huts_of s) (huts_of t) i commits ⊎ Turns (huts_of s) (huts_of t) i (λ k. synced (commits k))) (Unmoved (huts_of s) (huts_of t) i)
+      (r : Result Done Unplayed) → bytes_sent t ≡ bytes_sent s → MatchResult r (λ _. Turns (huts_of s) (huts_of t) i commits_synced) (Unmoved (huts_of s) (huts_of t) i (λ k. k))
       → Went s t i acts.Commit r es
   went_commit r letters =
-      went acts.Commit _ r letters (λ _. ⊎_elim
-      (stepped _ commits (Comes h acts.Commit) (after_commit es h low) (inl refl) letters)
-      (stepped _ (λ k. synced (commits k)) (Comes h acts.Commit) (after_committed es h low) (inr refl) letters))
+      went acts.Commit _ r letters
+      (λ _. stepped _ commits_synced (Comes (bytes_sent s) h (kept h) acts.Commit) (after_first es h low (first_of (kept h))) refl letters)
 
-  -- so it is with a guest, who is shown what is synced
   pub went_sync :
-      (act : Act) (r : Result Done Unplayed) → Comes h act (Syncs h ∷ []) → bytes_sent t ≡ bytes_sent s
-      → MatchResult r (λ _. Turns (huts_of s) (huts_of t) i synced) (Unmoved (huts_of s) (huts_of t) i) → Went s t i act r es
-  went_sync act r comes letters = went act _ r letters (λ _. stepped _ synced (Comes h act) (after_sync es h low) comes letters)
+      (r : Result Done Unplayed) → bytes_sent t ≡ bytes_sent s
+      → MatchResult r (λ _. Turns (huts_of s) (huts_of t) i synced) (Unmoved (huts_of s) (huts_of t) i (λ k. k)) → Went s t i acts.Sync r es
+  went_sync r letters = went acts.Sync _ r letters (λ _. stepped _ synced (Comes (bytes_sent s) h (kept h) acts.Sync) (after_sync es h low) refl letters)
 
-  pub went_crash :
-      (left : ℕ) (d : Done) → bytes_sent t ≡ bytes_sent s
-      → ((before : ℕ → Kept) → Follows (huts_of s) before → (lost : ℕ) × Follows (huts_of t) (put h (synced (crashed lost (before h))) before) × SameHuts (huts_of s) (huts_of t))
-      → Went s t i (acts.Crash left) (Ok d) es
-  went_crash left d letters lose =
-      let left = lose kept stands.follows in
-      (_, stands_on s t es _ h (synced (crashed left.0 (kept h))) (after_crash es h low left.0) left.1 letters stands, (left.0, refl))
+  -- a guest is shown what is synced, and told after a sync that it is not served
+  pub went_visit :
+      (slip : Vector) (r : Result Done Unplayed) → bytes_sent t ≡ bytes_sent s
+      → MatchResult r (λ _. Turns (huts_of s) (huts_of t) i synced) (Unmoved (huts_of s) (huts_of t) i synced) → Went s t i (acts.Visit slip) r es
+  went_visit slip r letters =
+      went (acts.Visit slip) _ r letters (λ _. stepped _ synced (Comes (bytes_sent s) h (kept h) (acts.Visit slip)) (after_sync es h low) refl letters)
+
+  pub went_crash : (left : ℕ) (d : Done) → bytes_sent t ≡ bytes_sent s → Turns (huts_of s) (huts_of t) i (reopens left) → Went s t i (acts.Crash left) (Ok d) es
+  went_crash left d letters turns =
+      let found = reopened left (kept h) (stands.follows.in_step i (some_hut (huts_of s) i within) within).stands in
+      let is = after_crash es h low found.0 ∙ ap (λ (k : Kept). with_hut h k (after es)) found.1 in
+      (_, on _ (reopens left) is letters turns, (found.0, refl, found.1))
 
   module _ (letter : ℕ) (letters : bytes_sent t ≡ bytes_sent s) (there : letter < length (bytes_sent s)) where
     abbrev bytes : List ℕ
@@ -230,37 +254,38 @@ module _ (s t : Stage) (i : ℕ) (within : i < length (huts_of s)) (es : List Ev
         stands_as t es (es ++ Damaged h ∷ []) (after_one es (Damaged h))
         (stands_still s t es h (subst (λ (k : Kept). Follows (huts_of t) (put h k kept)) (means_cut bytes _ (stands.sent letter there) len short (kept h)) (turns kept stands.follows).0) letters stands)
 
-    pub took_first :
-        (len : ℕ) → Turns (huts_of s) (huts_of t) i (take_bytes (take len bytes)) → (more : List Event) × Stands t (es ++ more) × Comes h (acts.Cut letter len) more
+    took_first : (len : ℕ) → Turns (huts_of s) (huts_of t) i (take_bytes (take len bytes)) → Stands t (es ++ cut_comes h letter len bytes)
     took_first len turns =
-        ⊎_elim (λ short. (_, took_part len short turns, inl refl))
-        (λ all. (_, took (subst (λ (x : List ℕ). Turns (huts_of s) (huts_of t) i (take_bytes x)) (take_all len bytes all) turns), inr refl)) (cases_lt len (length bytes))
+        ⊎_elim
+        (λ short. subst (λ (more : List Event). Stands t (es ++ more)) (sym (cond_yes (ltb len (length bytes)) _ _ (lt→ltb len (length bytes) short))) (took_part len short turns))
+        (λ all. subst (λ (more : List Event). Stands t (es ++ more)) (sym (ap (λ b. cond b (Damaged h ∷ []) (Takes h letter ∷ [])) (le-ltb len (length bytes) all)))
+        (took (subst (λ (x : List ℕ). Turns (huts_of s) (huts_of t) i (take_bytes x)) (take_all len bytes all) turns)))
+        (cases_lt len (length bytes))
 
   -- bytes that are no letter
-  pub heard_nothing : (bs : List ℕ) → bytes_sent t ≡ bytes_sent s → read_letter bs ≡ damaged → Turns (huts_of s) (huts_of t) i (take_bytes bs) → Stands t (es ++ [])
+  pub heard_nothing : (bs : List ℕ) → bytes_sent t ≡ bytes_sent s → read_letter bs ≡ damaged → Turns (huts_of s) (huts_of t) i (take_bytes bs) → Stands t es
   unfolding items_taken
   heard_nothing bs letters none turns =
-      subst (Stands t) (sym (append-nil es))
-      (stands_still s t es h (subst (λ (x : Heard). Follows (huts_of t) (put h (items_taken (items_of x) (kept h)) kept)) none (turns kept stands.follows).0) letters stands)
+      stands_still s t es h (subst (λ (x : Heard). Follows (huts_of t) (put h (items_taken (items_of x) (kept h)) kept)) none (turns kept stands.follows).0) letters stands
 
   pub went_take :
       (letter : ℕ) (r : Result Done Unplayed) → bytes_sent t ≡ bytes_sent s
-      → MatchResult r (λ _. Turns (huts_of s) (huts_of t) i (take_bytes (get_or (bytes_sent s) letter []))) (Unmoved (huts_of s) (huts_of t) i)
+      → MatchResult r (λ _. Turns (huts_of s) (huts_of t) i (take_bytes (get_or (bytes_sent s) letter []))) (Unmoved (huts_of s) (huts_of t) i (λ k. k))
       → MatchResult r (λ _. letter < length (bytes_sent s)) (λ _. Unit {0}) → Went s t i (acts.Take letter) r es
   went_take letter (Ok d) letters turns there = (_, took letter letters there turns, refl)
-  went_take letter (Err e) letters left there = unmoved e letters left
+  went_take letter (Err e) letters left there = unmoved (acts.Take letter) e letters left
 
   pub went_cut :
       (letter len : ℕ) (r : Result Done Unplayed) → bytes_sent t ≡ bytes_sent s
-      → MatchResult r (λ _. Turns (huts_of s) (huts_of t) i (take_bytes (take len (get_or (bytes_sent s) letter [])))) (Unmoved (huts_of s) (huts_of t) i)
+      → MatchResult r (λ _. Turns (huts_of s) (huts_of t) i (take_bytes (take len (get_or (bytes_sent s) letter [])))) (Unmoved (huts_of s) (huts_of t) i (λ k. k))
       → MatchResult r (λ _. letter < length (bytes_sent s)) (λ _. Unit {0}) → Went s t i (acts.Cut letter len) r es
-  went_cut letter len (Ok d) letters turns there = took_first letter letters there len turns
-  went_cut letter len (Err e) letters left there = unmoved e letters left
+  went_cut letter len (Ok d) letters turns there = (_, took_first letter letters there len turns, refl)
+  went_cut letter len (Err e) letters left there = unmoved (acts.Cut letter len) e letters left
 
   -- the state of the replica is what its hut has kept
-  pub state_kept : (qs : List Hut) → qs ≡ huts_of s → state_at (huts_of s) i ≡ state_in (kept h)
-  state_kept [] is = absurd (omega (arith, within, ap length is))
-  state_kept (q ∷ qs) is = get_or-map (λ p. state_by p) (huts_of s) i q (fresh 0) within ∙ (stands.follows.in_step i q within).state
+  pub state_kept : state_at (huts_of s) i ≡ state_in (kept h)
+  state_kept =
+      let q = some_hut (huts_of s) i within in get_or-map (λ p. state_by p) (huts_of s) i q (fresh 0) within ∙ (stands.follows.in_step i q within).state
 
   -- a letter that is written is the one that is sent
   module _ (count : ℕ) (stamps : List ℕ) where
@@ -272,7 +297,7 @@ module _ (s t : Stage) (i : ℕ) (within : i < length (huts_of s)) (es : List Ev
 
     written : LetterOk (letter_for count stamps (state_at (huts_of s) i)) → Means page words
     written =
-        subst (λ (x : State). LetterOk (letter_for count stamps x) → Means (encode_letter (letter_for count stamps x)) words) (sym (state_kept (huts_of s) refl))
+        subst (λ (x : State). LetterOk (letter_for count stamps x) → Means (encode_letter (letter_for count stamps x)) words) (sym state_kept)
         (λ ok. (letter_for count stamps (state_in (kept h)), ok, refl, words_are count stamps (kept h)))
 
     longer : length (bytes_sent s ++ page ∷ []) ≡ length ((after es).sent ++ words ∷ [])
@@ -304,6 +329,6 @@ module _ (s t : Stage) (i : ℕ) (within : i < length (huts_of s)) (es : List Ev
       (λ d. (d ≡ dones.Written n) × (bytes_sent t ≡ bytes_sent s ++ bytes_for s i has.committed has.vector.stamps ∷ [])
       × LetterOk (letter_for has.committed has.vector.stamps (state_at (huts_of s) i)))
       (λ _. bytes_sent t ≡ bytes_sent s)
-      → MatchResult r (λ _. Turns (huts_of s) (huts_of t) i synced) (Unmoved (huts_of s) (huts_of t) i) → Went s t i (acts.Write has) r es
+      → MatchResult r (λ _. Turns (huts_of s) (huts_of t) i synced) (Unmoved (huts_of s) (huts_of t) i (λ k. k)) → Went s t i (acts.Write has) r es
   went_write has n (Ok d) letters turns = (_, wrote_letter has.committed has.vector.stamps letters.2 letters.1 turns, refl)
-  went_write has n (Err e) letters left = unmoved e letters left
+  went_write has n (Err e) letters left = unmoved (acts.Write has) e letters left

@@ -5,6 +5,8 @@ pub mod Cases
 pub mod Casts
 pub mod Days
 pub mod Fairness
+pub mod Effects
+pub mod Hosting
 pub mod Harm
 pub mod Items
 pub mod Lasting

@@ -9,7 +9,7 @@ use Rattle.network.specs.Refinement.{Refines, RunsAreSteps}
 use Rattle.network.specs.Rounds.{RoundsBring, SyncedSettles}
 use Rattle.network.specs.Sessions.{MonotonicReads, MonotonicWrites, ReadYourWrites, WritesFollowReads}
 use Rattle.network.specs.Shown.{CommittedOutcome, FoundStays, ShownStays}
-use Rattle.network.specs.Slips.{CoveredStays, ServedStays, BehindCovered}
+use Rattle.network.specs.Slips.{CoveredStays, ServedStays, BehindCovered, ServesAgain}
 use Rattle.network.specs.Walks.{AnyWalksAgree, FairAgree, WalksBring, ZeroKeepsLead}
 
 pub record Promised (es : List Event) : Type 0 where
@@ -32,6 +32,7 @@ pub record Promised (es : List Event) : Type 0 where
   pub slips_say : SlipsSay es
   pub covered_stays : CoveredStays es
   pub served_stays : ServedStays es
+  pub serves_again : ServesAgain es
   pub behind_covered : BehindCovered es
   pub letters_bring : LettersBring es
   pub taken-whole : TakenWhole es

@@ -1,10 +1,10 @@
 -- Slips of four kinds: when each is looked at, when it grows, and what is promised with it.
-use Rattle.std.specs.Prelude.{◌≡◌, ℕ, ◌<◌, ◌≤◌, Bool, true, false, not, ◌||◌, cond, List, [], ◌∷◌, ◌++◌, get_or, None}
+use Rattle.std.specs.Prelude.{◌≡◌, ℕ, ◌<◌, ◌≤◌, Bool, true, false, not, ◌||◌, cond, List, [], ◌∷◌, ◌++◌, length, get_or, None}
 use mathlib.Core.List.{Memᴰ}
 use Rattle.bookings.specs.Plain.{PlainKind, PlainEntry}
 use Rattle.entry_log.specs.Vectors.{joined_with, vector_of}
 use Rattle.journal.specs.History.{Kept, state_in}
-use Rattle.replica.specs.Model.{entry_made, make_refusal, serves}
+use Rattle.replica.specs.Model.{entry_made, make_refusal, serves, slip_after}
 use Rattle.network.specs.Net.{Event, Makes, Syncs, after, huts, run, step}
 use Rattle.network.specs.Replicas.{entries_in, vector_in}
 
@@ -57,6 +57,13 @@ abbrev pub ServedStays : List Event → Type 0
 ServedStays es =
     (i : ℕ) (slip : List ℕ) → i < huts → serves slip (state_in ((after es).hut i)) ≡ true
     → (later : List Event) → serves slip (state_in ((run later (step (Syncs i) (after es))).hut i)) ≡ true
+
+-- LAW: once it is synced, a replica that serves with a slip serves ever after with the slip that it answers, whatever comes: so a guest that has been shown
+-- its log is served there again, and what it has made there is made for it.
+abbrev pub ServesAgain : List Event → Type 0
+ServesAgain es =
+    (i : ℕ) (slip : List ℕ) → i < huts → length slip ≡ huts → serves slip (state_in ((after es).hut i)) ≡ true
+    → (later : List Event) → serves (slip_after slip (state_in ((after es).hut i))) (state_in ((run later (step (Syncs i) (after es))).hut i)) ≡ true
 
 -- LAW: an entry that is made where a slip is served stands, in every log that has it, behind all that the slip covers, of what anybody knows then.
 abbrev pub BehindCovered : List Event → Type 0

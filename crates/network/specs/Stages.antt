@@ -1,5 +1,5 @@
 -- Replicas over journals in memory, and what each has kept.
-use Rattle.std.specs.Prelude.{◌≡◌, ◌≢◌, ℕ, ◌<◌, ◌⊎◌, false, List, [], map, length, get_or, take, Option, None, Some, vec_items, vec_capacity}
+use Rattle.std.specs.Prelude.{◌≡◌, ◌≢◌, ℕ, ◌<◌, ◌⊎◌, true, false, List, [], map, length, get_or, take, Option, None, Some, vec_items, vec_capacity}
 use Rattle.journal.specs.History.{Kept, synced}
 use Rattle.journal.specs.Keeping.{InStep, InMemory, state_by, most_bytes}
 use Rattle.journal.specs.Phases.{is_synced}
@@ -35,6 +35,10 @@ pub record Follows (qs : List Hut) (kept : ℕ → Kept) : Type 0 where
 abbrev pub Unsynced : List Hut → ℕ → Type 0
 Unsynced qs i = (q : Hut) → is_synced (get_or qs i q).journal.phase ≡ false
 
+-- nothing of it waits to be synced
+abbrev pub Synced : List Hut → ℕ → Type 0
+Synced qs i = (q : Hut) → is_synced (get_or qs i q).journal.phase ≡ true
+
 -- each place has a replica of the hut that it had
 abbrev pub SameHuts : List Hut → List Hut → Type 0
 SameHuts qs ps = (j : ℕ) → hut_at ps j ≡ hut_at qs j
@@ -48,11 +52,11 @@ Turns qs ps i step =
 abbrev pub Never : List Hut → Type 0
 Never qs = (kept : ℕ → Kept) → Follows qs kept → ⊥
 
--- what an act leaves that is not done: all as it was, or synced; and no journal fails
-abbrev pub Unmoved : List Hut → List Hut → ℕ → Unplayed → Type 0
-Unmoved qs ps i unplayed.Memory = Turns qs ps i (λ k. k) ⊎ Turns qs ps i synced
-Unmoved qs ps i (unplayed.Refused w) = Turns qs ps i (λ k. k) ⊎ Turns qs ps i synced
-Unmoved qs ps i (unplayed.Failed f) = Never qs
+-- what an act leaves that is not done, where a refusal makes this of what was kept: for want of memory all is as it was, or synced; no journal fails
+abbrev pub Unmoved : List Hut → List Hut → ℕ → (Kept → Kept) → Unplayed → Type 0
+Unmoved qs ps i refused unplayed.Memory = Turns qs ps i (λ k. k) ⊎ Turns qs ps i synced
+Unmoved qs ps i refused (unplayed.Refused w) = Turns qs ps i refused
+Unmoved qs ps i refused (unplayed.Failed f) = Never qs
 
 -- the replicas of a stage
 abbrev pub huts_of : Stage → List Hut

@@ -16,7 +16,7 @@ ghost use Rattle.network.specs.Rounds.{RoundsBring, SyncedSettles};
 ghost use Rattle.network.specs.Refusing.{LowestRefusal};
 ghost use Rattle.network.specs.Sessions.{MonotonicReads, MonotonicWrites, ReadYourWrites, WritesFollowReads};
 ghost use Rattle.network.specs.Shown.{CommittedOutcome, FoundStays, OutcomeStays, ShownStays, ToldMayChange};
-ghost use Rattle.network.specs.Slips.{CoveredStays, ServedStays, BehindCovered};
+ghost use Rattle.network.specs.Slips.{CoveredStays, ServedStays, BehindCovered, ServesAgain};
 ghost use Rattle.network.specs.Walks.{AnyWalksAgree, FairAgree, WalksBring, ZeroKeepsLead};
 ghost use Rattle.std.specs.Prelude.{List};
 
@@ -113,6 +113,11 @@ pub fn covered_stays()
 // It serves with that slip ever after.
 pub fn served_stays()
     ensures { Always ServedStays }
+{}
+
+// It serves ever after with the slip that it answers.
+pub fn serves_again()
+    ensures { Always ServesAgain }
 {}
 
 // What is made where a slip is served stands behind all that the slip covers.

@@ -5,10 +5,10 @@ use Rattle.bookings.specs.declared.refusal.Refusal.{Refusal}
 use Rattle.journal.specs.History.{Kept}
 use Rattle.network.specs.Acts.{Told, Denied, cut_of}
 use Rattle.network.specs.Casts.{Absent}
-use Rattle.network.specs.Net.{Event, Syncs, Writes, put}
+use Rattle.network.specs.Net.{Event, Syncs, Writes, after, put}
 use Rattle.network.specs.Replicas.{committed_in, vector_in}
 use Rattle.network.specs.Stages.{Follows, Hut, bytes_sent, hut_at, huts_of}
-use Rattle.network.specs.Stands.{Comes, Stands}
+use Rattle.network.specs.Stands.{Comes, Stands, Stays}
 use Rattle.network.specs.Taking.{take_bytes}
 use Rattle.network.specs.declared.act.Act.{Act}
 use Rattle.network.specs.declared.act.Done.{Done}
@@ -33,10 +33,11 @@ abbrev pub DeniedBy : Stage → (hut : ℕ) → Act → Refusal → Type 0
 DeniedBy s hut act w =
     ((number_of w ≡ 2) × Absent hut (huts_of s)) ⊎ ((p : ℕ) × PlacedAt (huts_of s) hut p × Denied (huts_of s) p (vec_len s.letters) act w)
 
--- what an act of a hut has come to after the events so far: where it is done, just its own; where it is not, all is as it was, or synced
-abbrev pub WentBy : Stage → (hut : ℕ) → Act → Result Done Unplayed → List Event → Type 0
-WentBy t hut act r es =
-    (more : List Event) × Stands t (es ++ more) × MatchResult r (λ _. Comes hut act more) (λ _. (more ≡ []) ⊎ (more ≡ Syncs hut ∷ []))
+-- what an act of a hut has come to after the events so far; where it is none of the huts, nothing
+abbrev pub WentBy : Stage → Stage → (hut : ℕ) → Act → Result Done Unplayed → List Event → Type 0
+WentBy s t hut act r es =
+    (more : List Event) × Stands t (es ++ more)
+    × MatchResult r (λ _. Comes (bytes_sent s) hut ((after es).hut hut) act more) (λ e. ((more ≡ []) × Absent hut (huts_of s)) ⊎ Stays hut act e more)
 
 -- which letter has a number, counted from 1
 abbrev pub letter_of : List ℕ → (number : ℕ) → ℕ

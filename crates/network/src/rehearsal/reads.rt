@@ -1,7 +1,7 @@
 // What a rehearsal shows.
 ghost use Rattle.std.specs.Prelude.{◌≡◌, ◌<◌, ◌≤◌, ◌⊎◌, [], get_or, vec_len, MatchOption};
 ghost use Rattle.network.specs.Casts.{Absent};
-ghost use Rattle.network.specs.Stages.{Unsynced, bytes_sent, hut_at, huts_of, state_at};
+ghost use Rattle.network.specs.Stages.{Synced, Unsynced, bytes_sent, hut_at, huts_of, state_at};
 ghost use Rattle.replica.specs.Views.{state_of};
 
 use super::Rehearsal;
@@ -17,9 +17,9 @@ impl Rehearsal {
         place_of(self.stage.keepers.as_slice(), hut)
     }
 
-    // The replica at a place, to be shown: none where there is none, or where something of it is not synced.
+    // The replica at a place, to be shown: none where there is none, or where something of it is not synced, and just there.
     pub fn shown(&self, at: usize) -> Option<&Replica>
-        ensures { MatchOption result ((vec_len self.now.stage.keepers ≤ at) ⊎ Unsynced (huts_of self.now.stage) at) (λ p. state_of p.now ≡ state_at (huts_of self.now.stage) at) }
+        ensures { MatchOption result ((vec_len self.now.stage.keepers ≤ at) ⊎ Unsynced (huts_of self.now.stage) at) (λ p. (state_of p.now ≡ state_at (huts_of self.now.stage) at) × (at < vec_len self.now.stage.keepers) × Synced (huts_of self.now.stage) at) }
     {
         self.stage.keepers.get(at)?.shown()
     }

@@ -1,12 +1,11 @@
 // Whatever the replica at a place is told.
-ghost use Rattle.std.specs.Prelude.{◌≡◌, ℕ, ◌<◌, true, List, get_or, vec_len, MatchOption, MatchResult};
+ghost use Rattle.std.specs.Prelude.{◌≡◌, ℕ, ◌<◌, true, List, vec_len, MatchOption, MatchResult};
 ghost use Rattle.journal.specs.History.{Kept};
-ghost use Rattle.journal.specs.Phases.{is_synced};
 ghost use Rattle.letters.specs.Letters.{read_letter};
 ghost use Rattle.network.specs.Acts.{Told, Denied, writes, comes_of};
 ghost use Rattle.network.specs.Net.{Event};
-ghost use Rattle.network.specs.Stages.{Follows, Hut, SameHuts, Never, bytes_sent, hut_at, huts_of};
-ghost use Rattle.network.specs.Stands.{Rests, Sent, Stands, Turned, Went};
+ghost use Rattle.network.specs.Stages.{Follows, SameHuts, Never, Synced, bytes_sent, hut_at, huts_of};
+ghost use Rattle.network.specs.Stands.{Sent, Stands, Turned, Went};
 ghost use Rattle.network.specs.Taking.{Reports};
 ghost use Rattle.network.specs.declared.act.Act.TheVariants as acts;
 ghost use Rattle.network.specs.declared.unplayed.Unplayed.TheVariants.{Memory, Refused, Failed};
@@ -28,8 +27,8 @@ impl Stage {
         ensures follows { (kept : ℕ → Kept) → Follows (huts_of self.old) kept → (now : ℕ → Kept) × Follows (huts_of self.new) now × SameHuts (huts_of self.old) (huts_of self.new) }
         ensures letters { Sent self.old self.new at act.now result }
         ensures many { vec_len self.new.keepers ≡ vec_len self.old.keepers }
-        ensures clean { act.now ≡ acts.Sync → MatchResult result (λ _. (q : Hut) → is_synced (get_or (huts_of self.new) at q).journal.phase ≡ true) (λ _. Unit {0}) }
-        ensures turned { MatchResult result (λ _. Turned (huts_of self.old) (huts_of self.new) at act.now) (λ _. Rests (huts_of self.old) (huts_of self.new) at) }
+        ensures clean { act.now ≡ acts.Sync → MatchResult result (λ _. Synced (huts_of self.new) at) (λ _. Unit {0}) }
+        ensures turned { Turned self.old self.new at act.now result }
         ensures steps { (es : List Event) → Stands self.old es → Went self.old self.new at act.now result es }
     {
         match act {

@@ -46,7 +46,7 @@ impl Stage {
             × (bytes_sent self.new ≡ bytes_sent self.old ++ bytes_for self.old at has.now.committed has.now.vector.stamps ∷ [])
             × LetterOk (letter_for has.now.committed has.now.vector.stamps (state_at (huts_of self.old) at)))
             (λ _. bytes_sent self.new ≡ bytes_sent self.old) }
-        ensures kept { MatchResult result (λ _. Turns (huts_of self.old) (huts_of self.new) at synced) (Unmoved (huts_of self.old) (huts_of self.new) at) }
+        ensures kept { MatchResult result (λ _. Turns (huts_of self.old) (huts_of self.new) at synced) (Unmoved (huts_of self.old) (huts_of self.new) at (λ k. k)) }
         ensures many { vec_len self.new.keepers ≡ vec_len self.old.keepers }
         ensures unrefused { MatchResult result (λ _. Unit {0}) (λ e. elim e [ Memory ↦ Unit {0} | Refused w ↦ ⊥ | Failed f ↦ Never (huts_of self.old) ]) }
     {
@@ -72,7 +72,7 @@ impl Stage {
             (λ e. elim e [ Memory ↦ ⊥ | Refused w ↦ (number_of w ≡ 2) × (letter < vec_len self.old.letters → ⊥) | Failed f ↦ Never (huts_of self.old) ]) }
         ensures kept { MatchResult result
             (λ _. Turns (huts_of self.old) (huts_of self.new) at (take_bytes (part_of part (get_or (bytes_sent self.old) letter []))))
-            (Unmoved (huts_of self.old) (huts_of self.new) at) }
+            (Unmoved (huts_of self.old) (huts_of self.new) at (λ k. k)) }
         ensures report { MatchResult result
             (λ _. (kept : ℕ → Kept) → Follows (huts_of self.old) kept
             → Reports self.new.report (read_letter (part_of part (get_or (bytes_sent self.old) letter []))) (kept (hut_at (huts_of self.old) at)))
@@ -96,7 +96,7 @@ impl Stage {
     pub(crate) fn hear(&mut self, at: usize, bytes: &[u8]) -> Result<Done, Unplayed>
         requires { at < vec_len self.old.keepers }
         ensures answer { MatchResult result (λ d. d ≡ dones.Taken) (λ e. elim e [ Memory ↦ ⊥ | Refused w ↦ ⊥ | Failed f ↦ Never (huts_of self.old) ]) }
-        ensures kept { MatchResult result (λ _. Turns (huts_of self.old) (huts_of self.new) at (take_bytes bytes.now)) (Unmoved (huts_of self.old) (huts_of self.new) at) }
+        ensures kept { MatchResult result (λ _. Turns (huts_of self.old) (huts_of self.new) at (take_bytes bytes.now)) (Unmoved (huts_of self.old) (huts_of self.new) at (λ k. k)) }
         ensures report { MatchResult result
             (λ _. (kept : ℕ → Kept) → Follows (huts_of self.old) kept → Reports self.new.report (read_letter bytes.now) (kept (hut_at (huts_of self.old) at)))
             (λ _. Unit {0}) }

@@ -1,11 +1,10 @@
 // What the replica at a place does, act by act.
-ghost use Rattle.std.specs.Prelude.{◌≡◌, ℕ, ◌<◌, ◌⊎◌, true, get_or, vec_len, MatchResult};
+ghost use Rattle.std.specs.Prelude.{◌≡◌, ◌<◌, vec_len, MatchResult};
 ghost use Rattle.bookings.specs.Plain.{plain_kind};
-ghost use Rattle.journal.specs.History.{Kept, synced, crashed, makes, commits};
-ghost use Rattle.journal.specs.Phases.{is_synced};
+ghost use Rattle.journal.specs.History.{synced, makes};
 ghost use Rattle.network.specs.Acts.{Told, Denied};
-ghost use Rattle.network.specs.Net.{put};
-ghost use Rattle.network.specs.Stages.{Follows, SameHuts, Turns, Unmoved, Hut, Never, huts_of, hut_at};
+ghost use Rattle.network.specs.Effects.{commits_synced, reopens};
+ghost use Rattle.network.specs.Stages.{Never, Synced, Turns, Unmoved, huts_of};
 ghost use Rattle.network.specs.declared.act.Act.TheVariants as acts;
 ghost use Rattle.network.specs.declared.unplayed.Unplayed.TheVariants.{Memory, Refused, Failed};
 
@@ -21,7 +20,7 @@ impl Stage {
     pub(crate) fn make(&mut self, at: usize, kind: Kind) -> Result<Done, Unplayed>
         requires { at < vec_len self.old.keepers }
         ensures answer { MatchResult result (Told (huts_of self.old) at 0 (acts.Make kind)) (λ e. elim e [ Memory ↦ ⊥ | Refused w ↦ Denied (huts_of self.old) at 0 (acts.Make kind) w | Failed f ↦ Never (huts_of self.old) ]) }
-        ensures kept { MatchResult result (λ _. Turns (huts_of self.old) (huts_of self.new) at (λ k. synced (makes (plain_kind kind) k))) (Unmoved (huts_of self.old) (huts_of self.new) at) }
+        ensures kept { MatchResult result (λ _. Turns (huts_of self.old) (huts_of self.new) at (λ k. synced (makes (plain_kind kind) k))) (Unmoved (huts_of self.old) (huts_of self.new) at (λ k. k)) }
         ensures letters { self.new.letters ≡ self.old.letters }
         ensures many { vec_len self.new.keepers ≡ vec_len self.old.keepers }
     {
@@ -32,7 +31,7 @@ impl Stage {
     pub(crate) fn commit(&mut self, at: usize) -> Result<Done, Unplayed>
         requires { at < vec_len self.old.keepers }
         ensures answer { MatchResult result (Told (huts_of self.old) at 0 acts.Commit) (λ e. elim e [ Memory ↦ ⊥ | Refused w ↦ Denied (huts_of self.old) at 0 acts.Commit w | Failed f ↦ Never (huts_of self.old) ]) }
-        ensures kept { MatchResult result (λ _. Turns (huts_of self.old) (huts_of self.new) at commits ⊎ Turns (huts_of self.old) (huts_of self.new) at (λ k. synced (commits k))) (Unmoved (huts_of self.old) (huts_of self.new) at) }
+        ensures kept { MatchResult result (λ _. Turns (huts_of self.old) (huts_of self.new) at commits_synced) (Unmoved (huts_of self.old) (huts_of self.new) at (λ k. k)) }
         ensures letters { self.new.letters ≡ self.old.letters }
         ensures many { vec_len self.new.keepers ≡ vec_len self.old.keepers }
     {
@@ -43,10 +42,10 @@ impl Stage {
     pub(crate) fn sync(&mut self, at: usize) -> Result<Done, Unplayed>
         requires { at < vec_len self.old.keepers }
         ensures answer { MatchResult result (Told (huts_of self.old) at 0 acts.Sync) (λ e. elim e [ Memory ↦ ⊥ | Refused w ↦ ⊥ | Failed f ↦ Never (huts_of self.old) ]) }
-        ensures kept { MatchResult result (λ _. Turns (huts_of self.old) (huts_of self.new) at synced) (Unmoved (huts_of self.old) (huts_of self.new) at) }
+        ensures kept { MatchResult result (λ _. Turns (huts_of self.old) (huts_of self.new) at synced) (Unmoved (huts_of self.old) (huts_of self.new) at (λ k. k)) }
         ensures letters { self.new.letters ≡ self.old.letters }
         ensures many { vec_len self.new.keepers ≡ vec_len self.old.keepers }
-        ensures clean { MatchResult result (λ _. (q : Hut) → is_synced (get_or (huts_of self.new) at q).journal.phase ≡ true) (λ _. Unit {0}) }
+        ensures clean { MatchResult result (λ _. Synced (huts_of self.new) at) (λ _. Unit {0}) }
     {
         self.keepers[at].sync()?;
         Ok(Done::Synced)
@@ -56,7 +55,7 @@ impl Stage {
     pub(crate) fn visit(&mut self, at: usize, slip: Vector) -> Result<Done, Unplayed>
         requires { at < vec_len self.old.keepers }
         ensures answer { MatchResult result (Told (huts_of self.old) at 0 (acts.Visit slip)) (λ e. elim e [ Memory ↦ ⊥ | Refused w ↦ Denied (huts_of self.old) at 0 (acts.Visit slip) w | Failed f ↦ Never (huts_of self.old) ]) }
-        ensures kept { MatchResult result (λ _. Turns (huts_of self.old) (huts_of self.new) at synced) (Unmoved (huts_of self.old) (huts_of self.new) at) }
+        ensures kept { MatchResult result (λ _. Turns (huts_of self.old) (huts_of self.new) at synced) (Unmoved (huts_of self.old) (huts_of self.new) at synced) }
         ensures letters { self.new.letters ≡ self.old.letters }
         ensures many { vec_len self.new.keepers ≡ vec_len self.old.keepers }
     {
@@ -70,8 +69,7 @@ impl Stage {
     pub(crate) fn crash(&mut self, at: usize, left: usize) -> Done
         requires { at < vec_len self.old.keepers }
         ensures answer { Told (huts_of self.old) at 0 (acts.Crash left) result }
-        ensures kept { (kept : ℕ → Kept) → Follows (huts_of self.old) kept
-            → (lost : ℕ) × Follows (huts_of self.new) (put (hut_at (huts_of self.old) at) (synced (crashed lost (kept (hut_at (huts_of self.old) at)))) kept) × SameHuts (huts_of self.old) (huts_of self.new) }
+        ensures kept { Turns (huts_of self.old) (huts_of self.new) at (reopens left) }
         ensures letters { self.new.letters ≡ self.old.letters }
         ensures many { vec_len self.new.keepers ≡ vec_len self.old.keepers }
     {

@@ -1,14 +1,15 @@
 // Letters are carried from hut to hut, and huts crash.
 ghost use Rattle.std.specs.Prelude.{◌≡◌, ℕ, ◌⊎◌, true, false, List, [], ◌∷◌, ◌++◌, length, take, vec_len, MatchOption, MatchResult, OnErr, OnOk};
 ghost use Rattle.bookings.specs.Refusals.{number_of};
-ghost use Rattle.journal.specs.History.{Kept};
+ghost use Rattle.journal.specs.History.{Kept, crashed, synced};
 ghost use Rattle.letters.specs.Letters.{read_letter};
 ghost use Rattle.network.specs.Acts.{writes, comes_of};
 ghost use Rattle.network.specs.Casts.{Absent};
-ghost use Rattle.network.specs.Net.{Event, Syncs, Takes, Damaged, Crashes, after};
+ghost use Rattle.network.specs.Effects.{reopens};
+ghost use Rattle.network.specs.Net.{Event, Syncs, Takes, Crashes, after};
 ghost use Rattle.network.specs.Reached.{Promises};
 ghost use Rattle.network.specs.Stages.{Follows, SameHuts, bytes_sent, huts_of};
-ghost use Rattle.network.specs.Stands.{Stands};
+ghost use Rattle.network.specs.Stands.{Stands, cut_comes};
 ghost use Rattle.network.specs.Taking.{Reports};
 ghost use Rattle.network.specs.declared.unplayed.Unplayed.TheVariants.{Memory, Refused, Failed};
 ghost use Rattle.rehearsal.specs.Carrying.{CanCome, CutsOff, DeniedBy, Numbered, Present, RefusedUnless, ToldBy, WentBy, bytes_by, letter_of, sends};
@@ -26,7 +27,7 @@ impl Cast {
             (ToldBy self.old.rehearsal.stage hut act.now)
             (λ e. elim e [ Memory ↦ writes act.now ≡ true | Refused w ↦ DeniedBy self.old.rehearsal.stage hut act.now w | Failed f ↦ ⊥ ]) }
         ensures absent { Absent hut (huts_of self.old.rehearsal.stage) → self.new.rehearsal ≡ self.old.rehearsal }
-        ensures steps { (es : List Event) → Stands self.old.rehearsal.stage es → WentBy self.new.rehearsal.stage hut act.now result es }
+        ensures steps { (es : List Event) → Stands self.old.rehearsal.stage es → WentBy self.old.rehearsal.stage self.new.rehearsal.stage hut act.now result es }
         ensures report { (kept : ℕ → Kept) → Follows (huts_of self.old.rehearsal.stage) kept → OnOk result
             (MatchOption (comes_of (bytes_sent self.old.rehearsal.stage) act.now) (Unit {0}) (λ bs. Reports self.new.rehearsal.stage.report (read_letter bs) (kept hut))) }
         ensures places { SameHuts (huts_of self.old.rehearsal.stage) (huts_of self.new.rehearsal.stage) }
@@ -109,7 +110,7 @@ impl Cast {
         ensures answer { MatchResult result (λ _. CanCome self.old number to) (RefusedUnless (CanCome self.old number to)) }
         ensures refused { OnErr result (self.new.rehearsal ≡ self.old.rehearsal) }
         ensures steps { (es : List Event) → Stands self.old.rehearsal.stage es → OnOk result
-            (Stands self.new.rehearsal.stage (es ++ Damaged to ∷ []) ⊎ Stands self.new.rehearsal.stage (es ++ Takes to (letter_of self.old.carried.items number) ∷ [])) }
+            (Stands self.new.rehearsal.stage (es ++ cut_comes to (letter_of self.old.carried.items number) bytes (bytes_by self.old number))) }
         ensures report { (kept : ℕ → Kept) → Follows (huts_of self.old.rehearsal.stage) kept → OnOk result
             (Reports self.new.rehearsal.stage.report (read_letter (take bytes (bytes_by self.old number))) (kept to)) }
         ensures places { SameHuts (huts_of self.old.rehearsal.stage) (huts_of self.new.rehearsal.stage) }
@@ -132,7 +133,7 @@ impl Cast {
             (RefusedUnless (Present hut (huts_of self.old.rehearsal.stage))) }
         ensures refused { OnErr result (self.new.rehearsal ≡ self.old.rehearsal) }
         ensures steps { (es : List Event) → Stands self.old.rehearsal.stage es → OnOk result
-            ((lost : ℕ) × Stands self.new.rehearsal.stage (es ++ Crashes hut lost ∷ Syncs hut ∷ [])) }
+            ((lost : ℕ) × Stands self.new.rehearsal.stage (es ++ Crashes hut lost ∷ Syncs hut ∷ []) × (synced (crashed lost ((after es).hut hut)) ≡ reopens bytes ((after es).hut hut))) }
         ensures places { SameHuts (huts_of self.old.rehearsal.stage) (huts_of self.new.rehearsal.stage) }
         ensures promised { self.new.rehearsal.forged ≡ false → Promises self.new.rehearsal.stage }
         ensures forged { self.new.rehearsal.forged ≡ self.old.rehearsal.forged }

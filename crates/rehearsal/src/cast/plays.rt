@@ -1,15 +1,16 @@
 // What the hut that is meant does.
-ghost use Rattle.std.specs.Prelude.{◌≡◌, ℕ, ◌<◌, true, false, [], List, is_ok, vec_len, MatchOption, MatchResult, OnOk};
+ghost use Rattle.std.specs.Prelude.{◌≡◌, ℕ, ◌<◌, ◌⊎◌, true, false, [], List, is_ok, vec_len, MatchOption, MatchResult, OnOk};
 ghost use Rattle.bookings.specs.Refusals.{number_of};
 ghost use Rattle.journal.specs.History.{Kept};
 ghost use Rattle.journal.specs.declared.opened.NotOpened.TheVariants.{Memory as NoMemory, Refused as Kept_out, Failed as Broken};
 ghost use Rattle.letters.specs.Letters.{damaged, read_letter};
 ghost use Rattle.network.specs.Acts.{Told, Denied, writes, comes_of};
 ghost use Rattle.network.specs.Casts.{Absent, CastOk, Opens};
+ghost use Rattle.network.specs.Hosting.{ForGuest};
 ghost use Rattle.network.specs.Net.{Event};
 ghost use Rattle.network.specs.Reached.{Promises};
 ghost use Rattle.network.specs.Stages.{Follows, SameHuts, Unsynced, Unwritten, bytes_sent, hut_at, huts_of};
-ghost use Rattle.network.specs.Stands.{Rests, Sent, Stands, Turned, Went};
+ghost use Rattle.network.specs.Stands.{Forged, Heard, Sent, Stands, Turned, Went};
 ghost use Rattle.network.specs.Taking.{Reports};
 ghost use Rattle.network.specs.declared.act.Act.TheVariants as acts;
 ghost use Rattle.network.specs.declared.unplayed.Unplayed.TheVariants.{Memory, Refused, Failed};
@@ -66,7 +67,8 @@ impl Cast {
             (Told (huts_of self.old.rehearsal.stage) self.old.current (vec_len self.old.rehearsal.stage.letters) act.now)
             (λ e. elim e [ Memory ↦ writes act.now ≡ true | Refused w ↦ Denied (huts_of self.old.rehearsal.stage) self.old.current (vec_len self.old.rehearsal.stage.letters) act.now w | Failed f ↦ ⊥ ]) }
         ensures steps { (es : List Event) → Stands self.old.rehearsal.stage es → Went self.old.rehearsal.stage self.new.rehearsal.stage self.old.current act.now result es }
-        ensures turned { MatchResult result (λ _. Turned (huts_of self.old.rehearsal.stage) (huts_of self.new.rehearsal.stage) self.old.current act.now) (λ _. Rests (huts_of self.old.rehearsal.stage) (huts_of self.new.rehearsal.stage) self.old.current) }
+        ensures turned { Turned self.old.rehearsal.stage self.new.rehearsal.stage self.old.current act.now result }
+        ensures guests { (es : List Event) (guest : ℕ) → Stands self.old.rehearsal.stage es → ForGuest self.old.rehearsal.stage self.new.rehearsal.stage self.old.current act.now result es guest }
         ensures report { (kept : ℕ → Kept) → Follows (huts_of self.old.rehearsal.stage) kept → OnOk result
             (MatchOption (comes_of (bytes_sent self.old.rehearsal.stage) act.now) (Unit {0})
             (λ bs. Reports self.new.rehearsal.stage.report (read_letter bs) (kept (hut_at (huts_of self.old.rehearsal.stage) self.old.current)))) }
@@ -89,8 +91,10 @@ impl Cast {
         ensures report { (kept : ℕ → Kept) → Follows (huts_of self.old.rehearsal.stage) kept
             → Reports self.new.rehearsal.stage.report (read_letter bytes.now) (kept (hut_at (huts_of self.old.rehearsal.stage) self.old.current)) }
         ensures letters { self.new.rehearsal.stage.letters ≡ self.old.rehearsal.stage.letters }
+        ensures steps { (es : List Event) → Stands self.old.rehearsal.stage es → Heard self.old.rehearsal.stage self.new.rehearsal.stage self.old.current bytes.now es }
         ensures honest { self.old.rehearsal.forged ≡ false → read_letter bytes.now ≡ damaged → self.new.rehearsal.forged ≡ false }
         ensures written { self.old.rehearsal.forged ≡ false → (Unwritten (bytes_sent self.old.rehearsal.stage) bytes.now → ⊥) → self.new.rehearsal.forged ≡ false }
+        ensures forged { (self.old.rehearsal.forged ≡ true) ⊎ Forged (bytes_sent self.old.rehearsal.stage) bytes.now → self.new.rehearsal.forged ≡ true }
         ensures places { SameHuts (huts_of self.old.rehearsal.stage) (huts_of self.new.rehearsal.stage) }
         ensures promised { self.new.rehearsal.forged ≡ false → Promises self.new.rehearsal.stage }
         ensures current { self.new.current ≡ self.old.current }

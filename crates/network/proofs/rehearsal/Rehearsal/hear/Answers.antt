@@ -1,5 +1,5 @@
 use Rattle.std.proofs.Common.{rules}
-use Rattle.network.proofs.Reached.{heard_reached, reached_promises, stays_honest, stays_written, went_followed, went_huts}
+use Rattle.network.proofs.Reached.{heard_reached, heard_so, made_forged, reached_promises, stays_honest, stays_written, went_followed, went_huts}
 use Rattle.network.proofs.Stands.{same_letters}
 use Rattle.network.proofs.rehearsal.Rehearsal.hear.Goals as goal
 
@@ -35,3 +35,13 @@ returns-clause-promised c = λ honest.
 pub returns-clause-places : goal.returns-clause-places
 returns-clause-places c =
     went_huts c.args.self.now.stage c.hear.new.self (λ kept follows. (c.in_ok-done.ensures.kept kept follows).1) c.args.self.now.followed
+
+pub returns-clause-steps : goal.returns-clause-steps
+returns-clause-steps c = λ es within stands.
+    heard_so c.args.self.now.stage _ c.args.at c.args.bytes.now (search rules) (same_letters c.args.self.now.stage c.hear.new.self c.in_ok-done.ensures.letters)
+    c.in_ok-done.ensures.kept es stands
+
+pub returns-clause-forged : goal.returns-clause-forged
+returns-clause-forged c = λ within new.
+    made_forged c.args.self.now.stage c.hear.new.self c.args.at c.args.bytes.now c.find.result c.hear.new.self.report.rejected c.args.self.now.forged c.is_some-written.result c.is_damaged.result
+    c.is_some-written.ensures c.is_damaged.ensures (λ kept follows. (c.in_ok-done.ensures.report kept follows).0) c.args.self.now.followed c.find.ensures new

@@ -1,3 +1,5 @@
+use Rattle.std.proofs.Common.{rules}
+use Rattle.network.proofs.Hosting.{for_guest}
 use Rattle.network.proofs.Reached.{reached_promises, went_reached, went_followed, went_huts, unfailing}
 use Rattle.network.proofs.rehearsal.Rehearsal.play.Goals as goal
 
@@ -21,3 +23,8 @@ returns-clause-promised c = λ honest.
 pub returns-clause-places : goal.returns-clause-places
 returns-clause-places c =
     went_huts c.args.self.now.stage c.act.new.self (λ kept follows. (c.act.ensures.follows kept follows).2) c.args.self.now.followed
+
+pub returns-clause-guests : goal.returns-clause-guests
+returns-clause-guests c = λ es guest within stands.
+    for_guest c.args.self.now.stage c.act.new.self c.args.at (search rules) es stands guest _ c.args.act.now c.act.result
+    (unfailing c.args.self.now.stage _ _ _ c.act.result c.args.self.now.followed c.act.ensures.answer) (c.act.ensures.steps es stands)

@@ -1,6 +1,5 @@
-use Rattle.std.proofs.Common.{refl, rules}
-use Rattle.network.proofs.Stands.{same_letters, letter_there, went_make, went_commit, went_sync, went_write, went_take, went_cut, went_crash}
-use Rattle.network.specs.declared.act.Act.TheVariants as acts
+use Rattle.std.proofs.Common.{rules}
+use Rattle.network.proofs.Stands.{same_letters, letter_there, went_make, went_commit, went_sync, went_visit, went_write, went_take, went_cut, went_crash}
 use Rattle.network.proofs.stage.Stage.act.Goals as goal
 
 pub returns-in-Make-clause-steps : goal.returns-in-Make-clause-steps
@@ -10,10 +9,10 @@ pub returns-in-Commit-clause-steps : goal.returns-in-Commit-clause-steps
 returns-in-Commit-clause-steps c = λ es stands. rw c.in-Commit.is (went_commit c.args.self.now c.commit.new.self c.args.at (search rules) es stands c.commit.result (same_letters c.args.self.now c.commit.new.self c.commit.ensures.letters) c.commit.ensures.kept)
 
 pub returns-in-Sync-clause-steps : goal.returns-in-Sync-clause-steps
-returns-in-Sync-clause-steps c = λ es stands. rw c.in-Sync.is (went_sync c.args.self.now c.sync.new.self c.args.at (search rules) es stands acts.Sync c.sync.result refl (same_letters c.args.self.now c.sync.new.self c.sync.ensures.letters) c.sync.ensures.kept)
+returns-in-Sync-clause-steps c = λ es stands. rw c.in-Sync.is (went_sync c.args.self.now c.sync.new.self c.args.at (search rules) es stands c.sync.result (same_letters c.args.self.now c.sync.new.self c.sync.ensures.letters) c.sync.ensures.kept)
 
 pub returns-in-Visit-clause-steps : goal.returns-in-Visit-clause-steps
-returns-in-Visit-clause-steps c = λ es stands. rw c.in-Visit.is (went_sync c.args.self.now c.visit.new.self c.args.at (search rules) es stands (acts.Visit c.in-Visit.slip) c.visit.result refl (same_letters c.args.self.now c.visit.new.self c.visit.ensures.letters) c.visit.ensures.kept)
+returns-in-Visit-clause-steps c = λ es stands. rw c.in-Visit.is (went_visit c.args.self.now c.visit.new.self c.args.at (search rules) es stands c.in-Visit.slip c.visit.result (same_letters c.args.self.now c.visit.new.self c.visit.ensures.letters) c.visit.ensures.kept)
 
 pub returns-in-Write-clause-steps : goal.returns-in-Write-clause-steps
 returns-in-Write-clause-steps c = λ es stands. rw c.in-Write.is (went_write c.args.self.now c.write.new.self c.args.at (search rules) es stands c.in-Write.has _ c.write.result c.write.ensures.letters c.write.ensures.kept)

@@ -1,7 +1,10 @@
 use Rattle.std.proofs.Common.{refl, rules, vec_items, sym, ap, ◌∙◌}
 use Rattle.entry_log.specs.Logs.{first_mark}
 use Rattle.replica.specs.Model.{State, is_primary}
-use Rattle.network.proofs.Stages.{state_here, turned_either, turned_back, handed_on}
+use Rattle.journal.specs.Keeping.{InMemory}
+use Rattle.network.specs.Effects.{commits_synced}
+use Rattle.network.proofs.Effects.{commit_moves, commits_synced_steady}
+use Rattle.network.proofs.Stages.{state_here, turned, turned_back, handed_on}
 use Rattle.network.proofs.stage.Stage.commit.Goals as goal
 
 pub returns-in_err-commit-clause-kept : goal.returns-in_err-commit-clause-kept
@@ -17,4 +20,6 @@ returns-clause-answer c =
 
 pub returns-clause-kept : goal.returns-clause-kept
 returns-clause-kept c =
-    turned_either (vec_items c.args.self.now.keepers) c.args.at c.index_mut.result.now c.commit.new.self (search rules) c.index_mut.ensures.value c.commit.ensures.room c.in_ok-commit.field-0 c.in_ok-commit.ensures.kept
+    let q = c.index_mut.result.now in
+    turned (vec_items c.args.self.now.keepers) c.args.at q c.commit.new.self (search rules) c.index_mut.ensures.value c.commit.ensures.room commits_synced commits_synced_steady
+    (commit_moves InMemory q c.commit.new.self c.in_ok-commit.field-0 c.in_ok-commit.ensures.answer.1 c.in_ok-commit.ensures.kept)

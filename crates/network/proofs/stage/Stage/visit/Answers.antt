@@ -1,4 +1,4 @@
-use Rattle.std.proofs.Common.{◌≡◌, refl, rules, vec_items, sym, ap, inr, ◌∙◌}
+use Rattle.std.proofs.Common.{◌≡◌, refl, rules, vec_items, sym, ap, ◌∙◌}
 use Rattle.std.proofs.lemmas.Result.{err_from_is_err_and}
 use Rattle.std.proofs.lemmas.Option.{MatchOption-at_some}
 use Rattle.journal.specs.History.{synced}
@@ -11,7 +11,7 @@ use Rattle.network.proofs.stage.Stage.visit.Goals as goal
 pub returns-in_err-serve-clause-kept : goal.returns-in_err-serve-clause-kept
 returns-in_err-serve-clause-kept c =
     let p = err_from_is_err_and c.from_residual-in_err-serve.result c.from_residual-in_err-serve.ensures.1 in
-    rw (p.1, p.2) (inr (turned (vec_items c.args.self.now.keepers) c.args.at c.index_mut-keeper.result.now c.sync.new.self (search rules) c.index_mut-keeper.ensures.value c.sync.ensures.room synced (λ k. refl) c.in_ok-sync.ensures.kept))
+    rw (p.1, p.2) (turned (vec_items c.args.self.now.keepers) c.args.at c.index_mut-keeper.result.now c.sync.new.self (search rules) c.index_mut-keeper.ensures.value c.sync.ensures.room synced (λ k. refl) c.in_ok-sync.ensures.kept)
 
 pub returns-clause-answer : goal.returns-clause-answer
 returns-clause-answer c =

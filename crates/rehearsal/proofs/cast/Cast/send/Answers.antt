@@ -9,7 +9,7 @@ use Rattle.network.specs.Stages.{huts_of, hut_at}
 use Rattle.network.specs.Stands.{Stands}
 use Rattle.replica.specs.Model.{State}
 use Rattle.rehearsal.specs.Carrying.{PlacedAt}
-use Rattle.rehearsal.proofs.Sending.{sent_for, shows_synced, unsent}
+use Rattle.rehearsal.proofs.Sending.{not_sent, sent_for, shows_synced, unsent}
 use Rattle.rehearsal.proofs.cast.Cast.send.Goals as goal
 
 pub returns-in_err-sender-clause-promised : goal.returns-in_err-sender-clause-promised
@@ -33,7 +33,7 @@ returns-in_err-letter-clause-unsent c = λ es stands.
     let second = c.in_err-letter.ensures.steps (es ++ first.0) (search rules) first.1 in
     let synced = first.2 ∙ ap (λ (h : ℕ). Syncs h ∷ []) c.in_ok-receiver.ensures.1 in
     let sender : hut_at (huts_of t) c.in_ok-sender.sender ≡ c.args.from = c.in_ok-play.ensures.places c.in_ok-sender.sender ∙ c.in_ok-sender.ensures.1 in
-    let left = subst (λ (h : ℕ). (second.0 ≡ []) ⊎ (second.0 ≡ Syncs h ∷ [])) sender second.2 in
+    let left = subst (λ (h : ℕ). (second.0 ≡ []) ⊎ (second.0 ≡ Syncs h ∷ [])) sender (not_sent (hut_at (huts_of t) c.in_ok-sender.sender) c.summary-has.result _ second.0 second.2) in
     let stays = unsent c.play-2.new.self.stage es first.0 second.0 c.args.from c.args.to synced left second.1 in
     rw (err_from_is_err_and c.from_residual-in_err-letter.result c.from_residual-in_err-letter.ensures.1).1 stays
 
@@ -52,6 +52,6 @@ returns-in-Written-clause-steps c = λ es stands.
     let there : PlacedAt (huts_of s) c.args.to c.in_ok-receiver.receiver = (search rules, c.in_ok-play.ensures.places c.in_ok-receiver.receiver ∙ c.in_ok-receiver.ensures.1) in
     let shown = MatchOption-at_some _ _ _ c.in_ok-replica.ensures.ok_part c.shown.ensures in
     sent_for s t es c.args.from c.args.to c.in_ok-receiver.receiver has on there
-    (c.summary-has.ensures.committed ∙ ap (λ (x : State). length x.log.committed) shown)
-    (c.summary-has.ensures.vector ∙ ap (λ (x : State). vector_of (all_of x.log)) shown)
+    (c.summary-has.ensures.committed ∙ ap (λ (x : State). length x.log.committed) shown.0)
+    (c.summary-has.ensures.vector ∙ ap (λ (x : State). vector_of (all_of x.log)) shown.0)
     (subst (λ (more : List Event). Stands t (begun ++ more)) wrote second.1)
