@@ -14,6 +14,7 @@ pub mod Holds
 pub mod Huts
 pub mod Knowing
 pub mod Lacking
+mod Lawful
 pub mod Leading
 pub mod Leaving
 mod Lettered
@@ -36,6 +37,7 @@ pub mod Room
 pub mod Safety
 pub mod Same
 pub mod Sending
+mod Serving
 pub mod Settle
 mod Slipping
 pub mod Sorting

@@ -1,39 +1,100 @@
 -- What the programs of all huts do, each over its own journal, is a run of the network.
-use Rattle.std.proofs.Common.{◌≡◌, ℕ, ◌<◌, ◌≤◌, ◌==◌, cond, List, [], ◌∷◌, ◌++◌, length, get_or, length-append, sym, refl, ap, subst, ◌∙◌, inl, inr, arith}
+use Rattle.std.proofs.Common.{◌≡◌, ℕ, ◌<◌, ◌≤◌, ◌==◌, true, cond, List, [], ◌∷◌, ◌++◌, length, get_or, None, length-append, append_assoc, append-nil, sym, refl, ap, subst, ◌∙◌, inl, inr, arith}
 use Rattle.std.proofs.lemmas.Bool.{cases_lt}
 use Rattle.std.proofs.lemmas.List.{get_or_append_left, get_or_push}
+use Rattle.bookings.specs.Plain.{PlainKind}
 use Rattle.journal.specs.History.{Kept, synced, makes, commits, crashed, opened, history_of, state_in}
 use Rattle.journal.proofs.Opening.{opens_after_crash_lem}
 use Rattle.journal.specs.Records.{bytes_of, Stands}
 use Rattle.letters.specs.Items.{items_of}
 use Rattle.letters.specs.Laws.{LetterOk}
 use Rattle.letters.specs.Letters.{damaged, encode_letter, read_letter}
+use Rattle.replica.specs.Model.{entry_made, make_refusal}
 use Rattle.network.specs.Items.{Letter, items_taken, words_for}
-use Rattle.network.specs.Mail.{Mail, keeping, posting, reopened, Call, make, commit, sync, write, hear_nothing, hear_letter, stop, Runs, begin, then, Agrees, Mailed}
-use Rattle.network.specs.Net.{Event, Syncs, Writes, Takes, Crashes, Net, after, huts, run, with_hut}
+use Rattle.network.specs.Mail.{Mail, no_mail, keeping, posting, meeting, visited, made_for, reopened, Call, make, make_unsynced, commit, commit_unsynced, sync, write, hear_nothing, hear_letter, stop, visit, make_for, Calls, none, then, Runs, Agrees, Mailed}
+use Rattle.network.specs.Net.{Event, Syncs, Writes, Takes, Crashes, Visits, MakesFor, Guest, Net, after, gives, huts, makes_for, put, run, served, shown, unless_refused, with_guest, with_hut}
 use Rattle.network.specs.Stands.{Means}
 use Rattle.network.specs.Taking.{letter_for, take_bytes}
+use Rattle.network.proofs.Lawful.{hands_on_letters}
 use Rattle.network.proofs.Promises.{promised}
 use Rattle.network.proofs.Stages.{put_same}
-use Rattle.network.proofs.Stands.{after_make, after_committed, after_sync, after_write, after_take, after_crash, means_take, take_nth_at, words_are}
+use Rattle.network.proofs.Stands.{after_make, after_made, after_commit, after_committed, after_sync, after_write, after_take, after_crash, among_yes, means_take, take_nth_at, words_are}
+use Rattle.network.proofs.Tests.{cond_yes, true_T}
+use Rattle.network.proofs.Walk.{after_one}
+
+-- a guest is shown what a hut knows, or has an entry made there
+after_visit :
+    (es : List Event) (g i : ℕ) → i < huts → served ((after es).guest g) ((after es).hut i) ≡ true
+    → after (es ++ Visits g i ∷ []) ≡ with_guest g (shown ((after es).guest g) ((after es).hut i)) (with_hut i (synced ((after es).hut i)) (after es))
+after_visit es g i low t = after_one es (Visits g i) ∙ among_yes i _ _ low ∙ cond_yes (served ((after es).guest g) ((after es).hut i)) _ _ (true_T _ t)
+
+after_gift :
+    (es : List Event) (g i : ℕ) (kind : PlainKind) → i < huts → served ((after es).guest g) ((after es).hut i) ≡ true
+    → make_refusal kind (state_in ((after es).hut i)) ≡ None
+    → after (es ++ MakesFor g i kind ∷ [])
+    ≡ with_guest g (gives ((after es).guest g) (entry_made kind (state_in ((after es).hut i)))) (with_hut i (synced (makes kind ((after es).hut i))) (after es))
+after_gift es g i kind low t free =
+    after_one es (MakesFor g i kind)
+    ∙ among_yes i (makes_for g i kind n) n low
+    ∙ cond_yes (served (n.guest g) (n.hut i)) (unless_refused (make_refusal kind (state_in (n.hut i))) n there) n (true_T (served (n.guest g) (n.hut i)) t)
+    ∙ ap (λ o. unless_refused o n there) free
+  where
+    n : Net
+    n = after es
+
+    there : Net
+    there = with_guest g (gives (n.guest g) (entry_made kind (state_in (n.hut i)))) (with_hut i (synced (makes kind (n.hut i))) n)
 
 module _ (m : Mail) (es : List Event) (agrees : Agrees m es) where
+  same_put : (i : ℕ) (step : Kept → Kept) (h : ℕ) → put i (step (m.hut i)) m.hut h ≡ put i (step ((after es).hut i)) (after es).hut h
+  same_put i step h = ap (λ k. cond (h == i) (step k) (m.hut h)) (agrees.kept i) ∙ ap (cond (h == i) (step ((after es).hut i))) (agrees.kept h)
+
   -- one hut goes on by a step, and no letter is written
   on : (i : ℕ) (more : List Event) (step : Kept → Kept) → after (es ++ more) ≡ with_hut i (step ((after es).hut i)) (after es) → Agrees (keeping i (step (m.hut i)) m) (es ++ more)
   on i more step is =
       record {
-        kept = λ h. ap (λ k. cond (h == i) (step k) (m.hut h)) (agrees.kept i) ∙ ap (cond (h == i) (step ((after es).hut i))) (agrees.kept h) ∙ ap (λ (n : Net). n.hut h) (sym is);
+        kept = λ h. same_put i step h ∙ ap (λ (n : Net). n.hut h) (sym is);
         as_many = rw is agrees.as_many;
         letters = λ n within. rw is (agrees.letters n within);
+        guests = λ g. agrees.guests g ∙ ap (λ (n : Net). n.guest g) (sym is);
       }
 
-  still : (i : ℕ) (k : Kept) → k ≡ m.hut i → Agrees (keeping i k m) es
-  still i k same =
+  -- and a guest with it
+  meets :
+      (g i : ℕ) (x y : Guest) (more : List Event) (step : Kept → Kept) → x ≡ y → after (es ++ more) ≡ with_guest g y (with_hut i (step ((after es).hut i)) (after es))
+      → Agrees (meeting g x i (step (m.hut i)) m) (es ++ more)
+  meets g i x y more step same is =
       record {
+        kept = λ h. same_put i step h ∙ ap (λ (n : Net). n.hut h) (sym is);
+        as_many = rw is agrees.as_many;
+        letters = λ n within. rw is (agrees.letters n within);
+        guests = λ a. ap (λ z. cond (a == g) z (m.guest a)) same ∙ ap (cond (a == g) y) (agrees.guests a) ∙ ap (λ (n : Net). n.guest a) (sym is);
+      }
+
+  -- what a hut says to a guest, the hut of the network says
+  module _ {A : Type 0} (f : Guest → Kept → A) (g i : ℕ) where
+    alike : f (m.guest g) (m.hut i) ≡ f ((after es).guest g) ((after es).hut i)
+    alike = ap (λ x. f x (m.hut i)) (agrees.guests g) ∙ ap (f ((after es).guest g)) (agrees.kept i)
+
+  pub visits : (g i : ℕ) → i < huts → served (m.guest g) (m.hut i) ≡ true → Agrees (visited g i m) (es ++ Visits g i ∷ [])
+  visits g i low t = meets g i _ _ (Visits g i ∷ []) synced (alike shown g i) (after_visit es g i low (sym (alike served g i) ∙ t))
+
+  makes-for :
+      (g i : ℕ) (kind : PlainKind) → i < huts → served (m.guest g) (m.hut i) ≡ true → make_refusal kind (state_in (m.hut i)) ≡ None
+      → Agrees (made_for g i kind m) (es ++ MakesFor g i kind ∷ [])
+  makes-for g i kind low t free =
+      meets g i _ _ (MakesFor g i kind ∷ []) (λ k. synced (makes kind k)) (alike (λ x k. gives x (entry_made kind (state_in k))) g i)
+      (after_gift es g i kind low (sym (alike served g i) ∙ t) (ap (λ k. make_refusal kind (state_in k)) (sym (agrees.kept i)) ∙ free))
+
+  still : (i : ℕ) (k : Kept) → k ≡ m.hut i → Agrees (keeping i k m) (es ++ [])
+  still i k same =
+      subst (Agrees (keeping i k m)) (sym (append-nil es))
+      (record {
         kept = λ h. ap (λ x. cond (h == i) x (m.hut h)) same ∙ sym (put_same i m.hut h) ∙ agrees.kept h;
         as_many = agrees.as_many;
         letters = agrees.letters;
-      }
+        guests = agrees.guests;
+      })
 
   module _ (i count : ℕ) (has : List ℕ) (low : i < huts) (ok : LetterOk (letter_for count has (state_in (m.hut i)))) where
     abbrev page : List ℕ
@@ -57,14 +118,15 @@ module _ (m : Mail) (es : List Event) (agrees : Agrees m es) where
     posted =
         let is = after_write es i low count has in
         record {
-          kept = λ h. ap (λ k. cond (h == i) (synced k) (m.hut h)) (agrees.kept i) ∙ ap (cond (h == i) (synced ((after es).hut i))) (agrees.kept h) ∙ ap (λ (n : Net). n.hut h) (sym is);
+          kept = λ h. same_put i synced h ∙ ap (λ (n : Net). n.hut h) (sym is);
           as_many = rw is (omega (arith, agrees.as_many, length-append m.sent (page ∷ []), length-append (after es).sent (words ∷ [])));
           letters = rw is last;
+          guests = λ g. agrees.guests g ∙ ap (λ (n : Net). n.guest g) (sym is);
         }
 
-  heard_nothing : (j : ℕ) (bs : List ℕ) → read_letter bs ≡ damaged → Agrees (keeping j (take_bytes bs (m.hut j)) m) es
+  heard_nothing : (j : ℕ) (bs : List ℕ) → read_letter bs ≡ damaged → Agrees (keeping j (take_bytes bs (m.hut j)) m) (es ++ [])
   unfolding items_taken
-  heard_nothing j bs none = still j (take_bytes bs (m.hut j)) (ap (λ h. items_taken (items_of h) (m.hut j)) none)
+  heard_nothing j bs nothing = still j (take_bytes bs (m.hut j)) (ap (λ h. items_taken (items_of h) (m.hut j)) nothing)
 
   heard : (j nth : ℕ) → j < huts → nth < length m.sent → Agrees (keeping j (take_bytes (get_or m.sent nth []) (m.hut j)) m) (es ++ Takes j nth ∷ [])
   heard j nth low within =
@@ -74,28 +136,42 @@ module _ (m : Mail) (es : List Event) (agrees : Agrees m es) where
 
   stopped :
       (i found : ℕ) → i < huts → Stands (m.hut i).hut (history_of (m.hut i)) → length (bytes_of (m.hut i).durable) ≤ found
-      → (now : List Event) × Agrees (keeping i (reopened found (m.hut i)) m) now
+      → (more : List Event) × Agrees (keeping i (reopened found (m.hut i)) m) (es ++ more)
   stopped i found low ok least =
       let o = opens_after_crash_lem (m.hut i) found ok least in (
-        es ++ Crashes i o.0 ∷ Syncs i ∷ [],
+        Crashes i o.0 ∷ Syncs i ∷ [],
         subst (λ (k : Kept). Agrees (keeping i k m) (es ++ Crashes i o.0 ∷ Syncs i ∷ [])) (sym (ap (opened (m.hut i).hut) o.1))
             (on i (Crashes i o.0 ∷ Syncs i ∷ []) (λ k. synced (crashed o.0 k)) (after_crash es i low o.0)),
       )
 
 -- each call is some events of the network
-called : (m n : Mail) → Call m n → (es : List Event) → Agrees m es → (now : List Event) × Agrees n now
+called : (m n : Mail) → Call m n → (es : List Event) → Agrees m es → (more : List Event) × Agrees n (es ++ more)
 called m n (make i kind low) es a = (_, on m es a i _ (λ k. synced (makes kind k)) (after_make es i low kind))
+called m n (make_unsynced i kind low) es a = (_, on m es a i _ (makes kind) (after_made es i low kind))
 called m n (commit i low) es a = (_, on m es a i _ (λ k. synced (commits k)) (after_committed es i low))
+called m n (commit_unsynced i low) es a = (_, on m es a i _ commits (after_commit es i low))
 called m n (sync i low) es a = (_, on m es a i _ synced (after_sync es i low))
-called m n (write i count has low ok) es a = (_, posted m es a i count has low ok)
-called m n (hear_nothing j bs none) es a = (es, heard_nothing m es a j bs none)
+called m n (write i count has low ok) es a = (_, posted m es a i count has low (hands_on_letters (m.hut i) ok count has))
+called m n (hear_nothing j bs nothing) es a = (_, heard_nothing m es a j bs nothing)
 called m n (hear_letter j nth low within) es a = (_, heard m es a j nth low within)
 called m n (stop i found low ok least) es a = stopped m es a i found low ok least
+called m n (visit g i low t) es a = (_, visits m es a g i low t)
+called m n (make_for g i kind low t free) es a = (_, makes-for m es a g i kind low t free)
 
-run_of : (m : Mail) → Runs m → (es : List Event) × Agrees m es
+-- and so are calls one after another
+pub calls_on : (m n : Mail) → Calls m n → (es : List Event) → Agrees m es → (more : List Event) × Agrees n (es ++ more)
+calls_on m n none es a = ([], subst (Agrees m) (sym (append-nil es)) a)
+calls_on m n (then cs c) es a =
+    let w = calls_on m _ cs es a in
+    let v = called _ n c (es ++ w.0) w.1 in
+    (w.0 ++ v.0, subst (Agrees n) (append_assoc es w.0 v.0) v.1)
+
+begins : Agrees no_mail []
 unfolding run
-run_of m begin = ([], record { kept = λ h. refl; as_many = refl; letters = λ n within. absurd (omega (arith, within)) })
-run_of m (then r c) = let w = run_of _ r in called _ m c w.0 w.1
+begins = record { kept = λ h. refl; as_many = refl; letters = λ n within. absurd (omega (arith, within)); guests = λ g. refl }
+
+pub run_of : (m : Mail) → Runs m → (es : List Event) × Agrees m es
+run_of m r = calls_on no_mail m r [] begins
 
 pub mailed : Mailed
 mailed m r = let w = run_of m r in (w.0, w.1, promised w.0)

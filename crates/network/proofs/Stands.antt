@@ -31,7 +31,7 @@ use Rattle.network.proofs.Stages.{put_same}
 use Rattle.network.proofs.Tests.{cond_yes}
 use Rattle.network.proofs.Walk.{after_one, after_two}
 
-among_yes : (h : ℕ) (m n : Net) → h < huts → among h m n ≡ m
+pub among_yes : (h : ℕ) (m n : Net) → h < huts → among h m n ≡ m
 among_yes h m n low = cond_yes (ltb h huts) m n (lt→ltb h huts low)
 
 module _ (es : List Event) (h : ℕ) (low : h < huts) where
@@ -46,8 +46,11 @@ module _ (es : List Event) (h : ℕ) (low : h < huts) where
   pub after_sync : after (es ++ Syncs h ∷ []) ≡ with_hut h (synced (n.hut h)) n
   after_sync = after_one es (Syncs h) ∙ among_yes h _ _ low
 
+  pub after_made : (kind : PlainKind) → after (es ++ Makes h kind ∷ []) ≡ with_hut h (makes kind (n.hut h)) n
+  after_made kind = after_one es (Makes h kind) ∙ among_yes h _ _ low
+
   pub after_make : (kind : PlainKind) → after (es ++ Makes h kind ∷ Syncs h ∷ []) ≡ with_hut h (synced (makes kind (n.hut h))) n
-  after_make kind = then_synced (Makes h kind) (makes kind (n.hut h)) (after_one es (Makes h kind) ∙ among_yes h _ _ low)
+  after_make kind = then_synced (Makes h kind) (makes kind (n.hut h)) (after_made kind)
 
   pub after_commit : after (es ++ Commits h ∷ []) ≡ with_hut h (commits (n.hut h)) n
   after_commit = after_one es (Commits h) ∙ among_yes h _ _ low

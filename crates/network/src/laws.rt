@@ -2,7 +2,7 @@
 ghost use Rattle.network.specs.Cases.{SixCases, SixCasesPlayed};
 ghost use Rattle.network.specs.Days.{DayOf, Happens, DaysStay, TimedAgree, TimedIsRun};
 ghost use Rattle.network.specs.Harm.{NoLetterHarms};
-ghost use Rattle.network.specs.Mail.{Mailed};
+ghost use Rattle.network.specs.Mail.{HandsOnLetters, Mailed, ServedAgain};
 ghost use Rattle.network.specs.Promise.{Always, OneOrder, OnePrimary, PrimaryLeads, Final, HandedOnStays, SameLog, OnceEach, BehindKnown, NamedBefore, CancelledHoldsNothing, NoGaps, VectorsSay, KnownStays, KnownWhenWritten, StoodSays, GuestsKeep, SlipsSay, LettersBring, TakenWhole, LettersNeeded, CanAgree};
 ghost use Rattle.network.specs.Promised.{Promised};
 ghost use Rattle.network.specs.Slips.{CoveredStays, ServedStays, BehindCovered};
@@ -142,6 +142,16 @@ pub fn six_cases()
 // Whatever the programs of all huts do, each over its own journal, is a run of the network.
 pub fn mailed()
     ensures { Mailed }
+{}
+
+// Whatever a replica over its journal hands on is a letter that can be read.
+pub fn hands_on_letters()
+    ensures { HandsOnLetters }
+{}
+
+// A guest who was served at a hut is served there from then on, whatever the programs of all huts do.
+pub fn served_again()
+    ensures { ServedAgain }
 {}
 
 // Whatever bytes come, nothing that is committed or known is lost.
