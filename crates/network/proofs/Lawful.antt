@@ -63,7 +63,7 @@ missing_fit has before (e ∷ es) b f =
     (λ _. rest) (λ _. (record { entry_ok = one; sixteen = vector_long before; fit = vector_fits before b }, rest))
 
 -- every entry of a history that can stand
-history_fits : (hut : ℕ) (rs : List PlainRecord) → Stands hut rs → Fit (entries_of rs)
+pub history_fits : (hut : ℕ) (rs : List PlainRecord) → Stands hut rs → Fit (entries_of rs)
 history_fits hut [] ok k m = none_in m
 history_fits hut (Tentative e ∷ rs) ok k m = elim (log_only (Tentative e) rs k m) [ inl p ↦ subst EntryOk (sym p) ok.0 | inr u ↦ history_fits hut rs ok.2 k u ]
 history_fits hut (Committed e ∷ rs) ok k m = elim (log_only (Committed e) rs k m) [ inl p ↦ subst EntryOk (sym p) ok.0 | inr u ↦ history_fits hut rs ok.2 k u ]

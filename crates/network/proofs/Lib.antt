@@ -14,7 +14,7 @@ pub mod Holds
 pub mod Huts
 pub mod Knowing
 pub mod Lacking
-mod Lawful
+pub mod Lawful
 pub mod Leading
 pub mod Leaving
 mod Lettered
@@ -43,6 +43,7 @@ mod Slipping
 pub mod Sorting
 pub mod Spread
 pub mod Stages
+pub mod Standing
 pub mod Stands
 pub mod Steps
 pub mod Taken

@@ -4,20 +4,24 @@ use Rattle.std.proofs.lemmas.Bool.{cases_lt}
 use Rattle.std.proofs.lemmas.List.{get_or_append_left, get_or_push}
 use Rattle.bookings.specs.Plain.{PlainKind}
 use Rattle.journal.specs.History.{Kept, synced, makes, commits, crashed, opened, history_of, state_in}
-use Rattle.journal.proofs.Opening.{opens_after_crash_lem}
-use Rattle.journal.specs.Records.{bytes_of, Stands}
+use Rattle.journal.proofs.Finding.{opens_after_stop_lem}
+use Rattle.journal.specs.Finding.{FoundOf}
+use Rattle.journal.specs.Records.{Stands}
 use Rattle.letters.specs.Items.{items_of}
 use Rattle.letters.specs.Laws.{LetterOk}
 use Rattle.letters.specs.Letters.{damaged, encode_letter, read_letter}
 use Rattle.replica.specs.Model.{entry_made, make_refusal}
 use Rattle.network.specs.Items.{Letter, items_taken, words_for}
-use Rattle.network.specs.Mail.{Mail, no_mail, keeping, posting, meeting, visited, made_for, reopened, Call, make, make_unsynced, commit, commit_unsynced, sync, write, hear_nothing, hear_letter, stop, visit, make_for, Calls, none, then, Runs, Agrees, Mailed}
+use Rattle.network.specs.Mail.{Mail, no_mail, keeping, posting, meeting, visited, made_for, reopened, Call, make, make_unsynced, commit, commit_unsynced, sync, write, hear_nothing, hear_letter, stop, visit, make_for, Calls, none, then, Runs, Agrees, AllStand, KindRanged, Mailed, Standing}
 use Rattle.network.specs.Net.{Event, Syncs, Writes, Takes, Crashes, Visits, MakesFor, Guest, Net, after, gives, huts, makes_for, put, run, served, shown, unless_refused, with_guest, with_hut}
 use Rattle.network.specs.Stands.{Means}
 use Rattle.network.specs.Taking.{letter_for, take_bytes}
 use Rattle.network.proofs.Lawful.{hands_on_letters}
+use Rattle.network.proofs.Leading.{put_all}
 use Rattle.network.proofs.Promises.{promised}
+use Rattle.network.proofs.Safety.{after_holds}
 use Rattle.network.proofs.Stages.{put_same}
+use Rattle.network.proofs.Standing.{commits_stand, crash_stands, letter_stands, makes_stand}
 use Rattle.network.proofs.Stands.{after_make, after_made, after_commit, after_committed, after_sync, after_write, after_take, after_crash, among_yes, means_take, take_nth_at, words_are}
 use Rattle.network.proofs.Tests.{cond_yes, true_T}
 use Rattle.network.proofs.Walk.{after_one}
@@ -135,43 +139,95 @@ module _ (m : Mail) (es : List Event) (agrees : Agrees m es) where
       ∙ ap (λ k. with_hut j k (after es)) (take_nth_at nth (after es).sent ((after es).hut j) ∙ sym (means_take (get_or m.sent nth []) (get_or (after es).sent nth []) (agrees.letters nth within) ((after es).hut j))))
 
   stopped :
-      (i found : ℕ) → i < huts → Stands (m.hut i).hut (history_of (m.hut i)) → length (bytes_of (m.hut i).durable) ≤ found
-      → (more : List Event) × Agrees (keeping i (reopened found (m.hut i)) m) (es ++ more)
-  stopped i found low ok least =
-      let o = opens_after_crash_lem (m.hut i) found ok least in (
+      (i : ℕ) (found : List ℕ) → i < huts → Standing (m.hut i) → FoundOf (m.hut i) found
+      → (more : List Event) × Agrees (keeping i (reopened found (m.hut i)) m) (es ++ more) × Standing (reopened found (m.hut i))
+  stopped i found low ok f =
+      let o = opens_after_stop_lem (m.hut i) found ok f in (
         Crashes i o.0 ∷ Syncs i ∷ [],
         subst (λ (k : Kept). Agrees (keeping i k m) (es ++ Crashes i o.0 ∷ Syncs i ∷ [])) (sym (ap (opened (m.hut i).hut) o.1))
             (on i (Crashes i o.0 ∷ Syncs i ∷ []) (λ k. synced (crashed o.0 k)) (after_crash es i low o.0)),
+        subst (Stands (m.hut i).hut) (sym o.1) (crash_stands o.0 (m.hut i) ok),
       )
 
+-- some events come to what the programs did, and each record can stand where it stands
+pub record Agreed (m : Mail) (es : List Event) : Type 0 where
+  pub agrees : Agrees m es
+  pub standing : (h : ℕ) → Standing (m.hut h)
+
+module _ (m : Mail) (es : List Event) (a : Agreed m es) where
+  -- one hut has another history now
+  put_standing : (i : ℕ) (k : Kept) → Standing k → (h : ℕ) → Standing (put i k m.hut h)
+  put_standing i k ok = put_all (λ h x. Standing x) i k m.hut ok a.standing
+
+  pub visits_stand : (g i h : ℕ) → Standing ((visited g i m).hut h)
+  visits_stand g i = put_standing i (synced (m.hut i)) (a.standing i)
+
+  goes : (i : ℕ) (k : Kept) (more : List Event) → Standing k → Agrees (keeping i k m) (es ++ more) → (now : List Event) × Agreed (keeping i k m) (es ++ now)
+  goes i k more ok agrees = (more, record { agrees = agrees; standing = put_standing i k ok })
+
+  low_own : (i : ℕ) → i < huts → (m.hut i).hut < huts
+  low_own i low = omega (arith, low, ap (λ (k : Kept). k.hut) (a.agrees.kept i), (after_holds es).own i)
+
+  makes_ok : (i : ℕ) (kind : PlainKind) → i < huts → KindRanged kind → Standing (makes kind (m.hut i))
+  makes_ok i kind low ranged = makes_stand kind (m.hut i) (low_own i low) ranged (a.standing i)
+
+  heard_ok : (j nth : ℕ) → nth < length m.sent → Standing (take_bytes (get_or m.sent nth []) (m.hut j))
+  heard_ok j nth within =
+      let means = a.agrees.letters nth within in
+      subst Standing (sym (means_take (get_or m.sent nth []) _ means (m.hut j) ∙ ap (λ l. items_taken l (m.hut j)) means.3)) (letter_stands means.0 (m.hut j) means.1 (a.standing j))
+
+  nothing_ok : (j : ℕ) (bs : List ℕ) → read_letter bs ≡ damaged → Standing (take_bytes bs (m.hut j))
+  unfolding items_taken
+  nothing_ok j bs nothing = subst Standing (sym (ap (λ h. items_taken (items_of h) (m.hut j)) nothing)) (a.standing j)
+
 -- each call is some events of the network
-called : (m n : Mail) → Call m n → (es : List Event) → Agrees m es → (more : List Event) × Agrees n (es ++ more)
-called m n (make i kind low) es a = (_, on m es a i _ (λ k. synced (makes kind k)) (after_make es i low kind))
-called m n (make_unsynced i kind low) es a = (_, on m es a i _ (makes kind) (after_made es i low kind))
-called m n (commit i low) es a = (_, on m es a i _ (λ k. synced (commits k)) (after_committed es i low))
-called m n (commit_unsynced i low) es a = (_, on m es a i _ commits (after_commit es i low))
-called m n (sync i low) es a = (_, on m es a i _ synced (after_sync es i low))
-called m n (write i count has low ok) es a = (_, posted m es a i count has low (hands_on_letters (m.hut i) ok count has))
-called m n (hear_nothing j bs nothing) es a = (_, heard_nothing m es a j bs nothing)
-called m n (hear_letter j nth low within) es a = (_, heard m es a j nth low within)
-called m n (stop i found low ok least) es a = stopped m es a i found low ok least
-called m n (visit g i low t) es a = (_, visits m es a g i low t)
-called m n (make_for g i kind low t free) es a = (_, makes-for m es a g i kind low t free)
+called : (m n : Mail) → Call m n → (es : List Event) → Agreed m es → (more : List Event) × Agreed n (es ++ more)
+called m n (make i kind low ranged) es a =
+    goes m es a i _ _ (makes_ok m es a i kind low ranged) (on m es a.agrees i _ (λ k. synced (makes kind k)) (after_make es i low kind))
+called m n (make_unsynced i kind low ranged) es a = goes m es a i _ _ (makes_ok m es a i kind low ranged) (on m es a.agrees i _ (makes kind) (after_made es i low kind))
+called m n (commit i low) es a = goes m es a i _ _ (commits_stand (m.hut i) (a.standing i)) (on m es a.agrees i _ (λ k. synced (commits k)) (after_committed es i low))
+called m n (commit_unsynced i low) es a = goes m es a i _ _ (commits_stand (m.hut i) (a.standing i)) (on m es a.agrees i _ commits (after_commit es i low))
+called m n (sync i low) es a = goes m es a i _ _ (a.standing i) (on m es a.agrees i _ synced (after_sync es i low))
+called m n (write i count has low) es a = (
+  _,
+  record {
+    agrees = posted m es a.agrees i count has low (hands_on_letters (m.hut i) (a.standing i) count has);
+    standing = put_standing m es a i (synced (m.hut i)) (a.standing i);
+  },
+)
+called m n (hear_nothing j bs nothing) es a = goes m es a j _ _ (nothing_ok m es a j bs nothing) (heard_nothing m es a.agrees j bs nothing)
+called m n (hear_letter j nth low within) es a = goes m es a j _ _ (heard_ok m es a j nth within) (heard m es a.agrees j nth low within)
+called m n (stop i found low f) es a = let s = stopped m es a.agrees i found low (a.standing i) f in goes m es a i _ s.0 s.2 s.1
+called m n (visit g i low t) es a = (_, record { agrees = visits m es a.agrees g i low t; standing = visits_stand m es a g i })
+called m n (make_for g i kind low ranged t free) es a = (
+  _,
+  record {
+    agrees = makes-for m es a.agrees g i kind low t free;
+    standing = put_standing m es a i (synced (makes kind (m.hut i))) (makes_ok m es a i kind low ranged);
+  },
+)
 
 -- and so are calls one after another
-pub calls_on : (m n : Mail) → Calls m n → (es : List Event) → Agrees m es → (more : List Event) × Agrees n (es ++ more)
-calls_on m n none es a = ([], subst (Agrees m) (sym (append-nil es)) a)
+pub calls_on : (m n : Mail) → Calls m n → (es : List Event) → Agreed m es → (more : List Event) × Agreed n (es ++ more)
+calls_on m n none es a = ([], subst (Agreed m) (sym (append-nil es)) a)
 calls_on m n (then cs c) es a =
     let w = calls_on m _ cs es a in
     let v = called _ n c (es ++ w.0) w.1 in
-    (w.0 ++ v.0, subst (Agrees n) (append_assoc es w.0 v.0) v.1)
+    (w.0 ++ v.0, subst (Agreed n) (append_assoc es w.0 v.0) v.1)
 
-begins : Agrees no_mail []
+begins : Agreed no_mail []
 unfolding run
-begins = record { kept = λ h. refl; as_many = refl; letters = λ n within. absurd (omega (arith, within)); guests = λ g. refl }
+begins =
+    record {
+      agrees = record { kept = λ h. refl; as_many = refl; letters = λ n within. absurd (omega (arith, within)); guests = λ g. refl };
+      standing = λ h. tt;
+    }
 
-pub run_of : (m : Mail) → Runs m → (es : List Event) × Agrees m es
+pub run_of : (m : Mail) → Runs m → (es : List Event) × Agreed m es
 run_of m r = calls_on no_mail m r [] begins
 
 pub mailed : Mailed
-mailed m r = let w = run_of m r in (w.0, w.1, promised w.0)
+mailed m r = let w = run_of m r in (w.0, w.1.agrees, promised w.0)
+
+pub all_stand : AllStand
+all_stand m r = (run_of m r).1.standing

@@ -8,7 +8,7 @@ use Rattle.network.specs.Mail.{Mail, Agrees, ServedAgain, visited}
 use Rattle.network.specs.Net.{Event, Net, Visits, after, huts, run, served, start}
 use Rattle.network.specs.Replicas.{vector_in}
 use Rattle.network.proofs.Holds.{durables, histories}
-use Rattle.network.proofs.Mailed.{calls_on, run_of, visits}
+use Rattle.network.proofs.Mailed.{Agreed, calls_on, run_of, visits, visits_stand}
 use Rattle.network.proofs.Numbers.{covers_all, covers_at, joined_at}
 use Rattle.network.proofs.Parts.{Older, older_self}
 use Rattle.network.proofs.Safety.{after_holds}
@@ -41,10 +41,12 @@ module _ (m : Mail) (es : List Event) (agrees : Agrees m es) (g i : ℕ) (low : 
 pub served_again : ServedAgain
 served_again m r g i low t n later same =
     let o = run_of m r in
-    let then = now m o.0 o.1 g i low t in
-    let w = calls_on (visited g i m) n later then (seen m o.0 o.1 g i low t) in
+    let a = o.1.agrees in
+    let then = now m o.0 a g i low t in
+    let first : Agreed (visited g i m) then = record { agrees = seen m o.0 a g i low t; standing = visits_stand m o.0 o.1 g i } in
+    let w = calls_on (visited g i m) n later then first in
     let slip = slip_after (m.guest g).slip (state_in (m.hut i)) in
     let noted : (n.guest g).slip ≡ slip = same ∙ rw (eq-eqb g g refl) refl in
-    let at : n.hut i ≡ (run w.0 (after then)).hut i = w.1.kept i ∙ ap (λ (x : Net). x.hut i) (run-append then w.0 start) in
-    let knows = served_from (after then) (after_holds then) i (histories (after o.0) i) (shown-durable m o.0 o.1 g i low t) slip (covered m o.0 o.1 g i low t) w.0 in
+    let at : n.hut i ≡ (run w.0 (after then)).hut i = w.1.agrees.kept i ∙ ap (λ (x : Net). x.hut i) (run-append then w.0 start) in
+    let knows = served_from (after then) (after_holds then) i (histories (after o.0) i) (shown-durable m o.0 a g i low t) slip (covered m o.0 a g i low t) w.0 in
     ap (covers (vector_in (n.hut i))) noted ∙ ap (λ (k : Kept). covers (vector_in k) slip) at ∙ knows

@@ -2,7 +2,7 @@
 ghost use Rattle.network.specs.Cases.{SixCases, SixCasesPlayed};
 ghost use Rattle.network.specs.Days.{DayOf, Happens, DaysStay, TimedAgree, TimedIsRun};
 ghost use Rattle.network.specs.Harm.{NoLetterHarms};
-ghost use Rattle.network.specs.Mail.{HandsOnLetters, Mailed, ServedAgain};
+ghost use Rattle.network.specs.Mail.{AllStand, HandsOnLetters, Mailed, ServedAgain};
 ghost use Rattle.network.specs.Promise.{Always, OneOrder, OnePrimary, PrimaryLeads, Final, HandedOnStays, SameLog, OnceEach, BehindKnown, NamedBefore, CancelledHoldsNothing, NoGaps, VectorsSay, KnownStays, KnownWhenWritten, StoodSays, GuestsKeep, SlipsSay, LettersBring, TakenWhole, LettersNeeded, CanAgree};
 ghost use Rattle.network.specs.Promised.{Promised};
 ghost use Rattle.network.specs.Slips.{CoveredStays, ServedStays, BehindCovered};
@@ -147,6 +147,11 @@ pub fn mailed()
 // Whatever a replica over its journal hands on is a letter that can be read.
 pub fn hands_on_letters()
     ensures { HandsOnLetters }
+{}
+
+// Whatever the programs of all huts do, each record that is written can stand in its journal.
+pub fn all_stand()
+    ensures { AllStand }
 {}
 
 // A guest who was served at a hut is served there from then on, whatever the programs of all huts do.
