@@ -1,2 +1,4 @@
+pub mod Composing
 pub mod Gotten
 pub mod Lines
+pub mod Resting

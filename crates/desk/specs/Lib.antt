@@ -1,3 +1,4 @@
+pub mod Composed
 pub mod Failures
 pub mod Replies
 pub mod Said

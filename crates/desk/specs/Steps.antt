@@ -1,10 +1,12 @@
 -- What a call leaves that is not done, and what a line leaves that is done.
 use Rattle.std.specs.Prelude.{◌≡◌, ℕ, ◌<◌, ◌≤◌, ◌⊎◌, List, map, length, Option}
+use Rattle.console.specs.Checks.{RequestOk}
 use Rattle.console.specs.Requests.{asked}
 use Rattle.console.specs.declared.command.Command.{Command}
 use Rattle.console.specs.declared.command.Command.TheVariants as commands
+use Rattle.journal.specs.Finding.{FindsOf}
 use Rattle.journal.specs.History.{Kept, synced, makes, commits}
-use Rattle.journal.specs.Keeping.{Moves, Lasts}
+use Rattle.journal.specs.Keeping.{Moves, Fails}
 use Rattle.journal.specs.declared.keeper.Keeper.{Keeper}
 use Rattle.letters.specs.Items.{items_of}
 use Rattle.letters.specs.Letters.{encode_letter, read_letter}
@@ -14,26 +16,38 @@ use Rattle.network.specs.declared.unplayed.Unplayed.{Unplayed}
 use Rattle.network.specs.declared.unplayed.Unplayed.TheVariants.{Memory, Refused, Failed}
 use Rattle.replica.specs.Model.{State}
 
--- what is refused changes nothing; where the journal fails, what was synced lasts
-abbrev pub Leaves : {J : Type 0} → (J → List ℕ → ℕ → Type 0) → (J → List ℕ → Type 0) → Keeper J → Keeper J → Unplayed → Type 0
-Leaves keeps lasts before after Memory = Unit {0}
-Leaves keeps lasts before after (Refused why) = Moves keeps before after (λ k. k)
-Leaves keeps lasts before after (Failed fault) = Lasts keeps lasts before after
+-- what is refused changes nothing; where the journal fails, a stop finds what it may find of this
+abbrev pub Leaves : {J : Type 0} → (J → List ℕ → ℕ → Type 0) → (J → List ℕ → Type 0) → Keeper J → Keeper J → (Kept → Kept) → Unplayed → Type 0
+Leaves keeps finds before after step Memory = Unit {0}
+Leaves keeps finds before after step (Refused why) = Moves keeps before after (λ k. k)
+Leaves keeps finds before after step (Failed fault) = Fails keeps finds before after step
 
--- of what was kept: a call that is not done leaves all, or all of it synced, unless the journal fails
-abbrev pub Rests : (Kept → Type 0) → Kept → Unplayed → Type 0
-Rests keeps k Memory = keeps k ⊎ keeps (synced k)
-Rests keeps k (Refused why) = keeps k ⊎ keeps (synced k)
-Rests keeps k (Failed fault) = Unit
+-- of what was kept: a call that is not done leaves all, or all of it synced; or this, where the journal fails
+abbrev pub Rests : (Kept → Type 0) → Kept → (failed : Type 0) → Unplayed → Type 0
+Rests keeps k failed Memory = keeps k ⊎ keeps (synced k)
+Rests keeps k failed (Refused why) = keeps k ⊎ keeps (synced k)
+Rests keeps k failed (Failed fault) = failed
 
--- what a line leaves of what was kept: one that shows something leaves all, or all of it synced, and one with more bytes than any letter may be left
+-- where the journal fails, a stop finds what it may find of what the line was to keep
+abbrev pub LineFinds : (List ℕ → Type 0) → Command → (letter : List ℕ) → Kept → Type 0
+LineFinds finds (commands.Make q) bs k = RequestOk (asked q) × FindsOf finds (makes (asked q) k)
+LineFinds finds commands.Ink bs k = FindsOf finds (commits k)
+LineFinds finds commands.Take bs k = FindsOf finds (take_bytes bs k)
+LineFinds finds _ bs k = FindsOf finds k
+
+-- what is shown is synced first
+abbrev pub LineShows : (Kept → Type 0) → Command → Kept → Type 0
+LineShows keeps commands.Pass k = keeps k
+LineShows keeps _ k = keeps (synced k)
+
+-- what a line leaves of what was kept: one with more bytes than any letter may be left
 abbrev pub LineLeaves : (Kept → Type 0) → Command → (letter : List ℕ) → Kept → Type 0
 LineLeaves keeps (commands.Make q) bs k = keeps (synced (makes (asked q) k))
 LineLeaves keeps commands.Ink bs k = keeps (commits k) ⊎ keeps (synced (commits k))
 LineLeaves keeps (commands.Letter c v) bs k = keeps (synced k)
 LineLeaves keeps commands.Take bs k = keeps (take_bytes bs k) ⊎ ((98345 < length bs) × keeps k)
 LineLeaves keeps commands.Help bs k = keeps k
-LineLeaves keeps _ bs k = keeps k ⊎ keeps (synced k)
+LineLeaves keeps c bs k = LineShows keeps c k
 
 -- what stands on the page: the letter that a line asks for
 abbrev pub LineWrites : List ℕ → Command → State → Type 0

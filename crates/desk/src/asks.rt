@@ -1,17 +1,21 @@
 // What a line asks for is done.
-ghost use Rattle.std.specs.Prelude.{◌≡◌, ◌≤◌, ◌⊎◌, length, Ok, Err, MatchResult, OnOk};
+ghost use Rattle.std.specs.Prelude.{◌≡◌, ℕ, ◌<◌, ◌≤◌, ◌⊎◌, length, Ok, Err, MatchResult, OnOk};
 ghost use Rattle.bookings.specs.Refusals.{number_of};
 ghost use Rattle.console.specs.Requests.{asked};
-ghost use Rattle.console.specs.Checks.{Fits32, StampsFit};
+ghost use Rattle.console.specs.Checks.{Fits32, RequestOk, StampsFit};
 ghost use Rattle.console.specs.Hexes.{bytes_of};
 ghost use Rattle.console.specs.declared.answer.Answer.TheVariants.{Refused as RefusedAnswer};
 ghost use Rattle.console.specs.declared.command.Command.TheVariants as commands;
-ghost use Rattle.desk.specs.Steps.{LineLeaves, LineWrites, LineBrings, Rests};
+ghost use Rattle.desk.specs.Composed.{ForGuest, GuestComposes, Honest, LineComposes};
+ghost use Rattle.desk.specs.Steps.{LineLeaves, LineFinds, LineShows, LineWrites, LineBrings, Rests};
 ghost use Rattle.desk.specs.Replies.{Shown, Hidden, Told, Untold};
 ghost use Rattle.desk.specs.declared.reply.Reply.TheVariants.{Line, Takings};
+ghost use Rattle.journal.specs.Finding.{FindsOf};
 ghost use Rattle.journal.specs.History.{Kept, synced, makes, commits};
 ghost use Rattle.letters.specs.Letters.{encode_letter};
-ghost use Rattle.network.specs.Taking.{letter_for};
+ghost use Rattle.network.specs.Mail.{Mail};
+ghost use Rattle.network.specs.Net.{huts};
+ghost use Rattle.network.specs.Taking.{letter_for, take_bytes};
 ghost use Rattle.network.specs.declared.unplayed.Unplayed.TheVariants.{Memory, Refused, Failed};
 ghost use Rattle.replica.specs.Views.{state_of};
 
@@ -43,9 +47,12 @@ pub fn ask<D: Desk>(
     ensures answer { MatchResult result
         (Told (D.state desk.old) (D.state desk.new) command.now)
         (Untold (D.state desk.old) (D.state desk.new) (D.shut desk.new) command.now) }
-    ensures leaves { (k : Kept) → D.keeps desk.old k → MatchResult result (λ _. LineLeaves (D.keeps desk.new) command.now (bytes_of letter.entry.digits.now) k) (Rests (D.keeps desk.new) k) }
+    ensures leaves { (k : Kept) → D.keeps desk.old k → MatchResult result (λ _. LineLeaves (D.keeps desk.new) command.now (bytes_of letter.entry.digits.now) k) (Rests (D.keeps desk.new) k (LineFinds (D.finds desk.new) command.now (bytes_of letter.entry.digits.now) k)) }
     ensures writes { OnOk result (LineWrites page.new.bytes.items command.now (D.state desk.old)) }
     ensures brings { (k : Kept) → D.keeps desk.old k → OnOk result (LineBrings (D.kept_out desk.new) (D.came desk.new) command.now (bytes_of letter.entry.digits.now) k) }
+    ensures network { (m : Mail) (i : ℕ) → i < huts → D.keeps desk.old (m.hut i) → Honest m command.now (bytes_of letter.entry.digits.now)
+        → LineComposes (D.keeps desk.new) (D.finds desk.new) i command.now (bytes_of letter.entry.digits.now) page.new.bytes.items m result }
+    ensures guests { (m : Mail) (g i : ℕ) → i < huts → D.keeps desk.old (m.hut i) → ForGuest g i m command.now → GuestComposes (D.keeps desk.new) g i command.now m result }
     ensures taken { command.now ≡ commands.Take → OnOk result (length (bytes_of letter.entry.digits.now) ≤ 98345 → result ≡ Ok Takings) }
 {
     match command {
@@ -76,7 +83,7 @@ pub fn or_refused(asked: Result<Reply, Unplayed>) -> Result<Reply, Unplayed>
 }
 
 fn make<D: Desk>(desk: &mut D, request: &Request) -> Result<Reply, Unplayed>
-    ensures keeps { (k : Kept) → D.keeps desk.old k → MatchResult result (λ _. D.keeps desk.new (synced (makes (asked request.now) k))) (Rests (D.keeps desk.new) k) }
+    ensures keeps { (k : Kept) → D.keeps desk.old k → MatchResult result (λ _. D.keeps desk.new (synced (makes (asked request.now) k))) (Rests (D.keeps desk.new) k (RequestOk (asked request.now) × FindsOf (D.finds desk.new) (makes (asked request.now) k))) }
     ensures answer { MatchResult result
         (Told (D.state desk.old) (D.state desk.new) (commands.Make request.now))
         (Untold (D.state desk.old) (D.state desk.new) (D.shut desk.new) (commands.Make request.now)) }
@@ -88,7 +95,7 @@ fn make<D: Desk>(desk: &mut D, request: &Request) -> Result<Reply, Unplayed>
 
 // What was committed stands last of all that is.
 fn commit<D: Desk>(desk: &mut D) -> Result<Reply, Unplayed>
-    ensures keeps { (k : Kept) → D.keeps desk.old k → MatchResult result (λ _. D.keeps desk.new (commits k) ⊎ D.keeps desk.new (synced (commits k))) (Rests (D.keeps desk.new) k) }
+    ensures keeps { (k : Kept) → D.keeps desk.old k → MatchResult result (λ _. D.keeps desk.new (commits k) ⊎ D.keeps desk.new (synced (commits k))) (Rests (D.keeps desk.new) k (FindsOf (D.finds desk.new) (commits k))) }
     ensures answer { MatchResult result
         (Told (D.state desk.old) (D.state desk.new) commands.Ink)
         (Untold (D.state desk.old) (D.state desk.new) (D.shut desk.new) commands.Ink) }
@@ -109,7 +116,7 @@ fn write<D: Desk>(
     committed: u64,
     vector: &RawVector,
 ) -> Result<Reply, Unplayed>
-    ensures keeps { (k : Kept) → D.keeps desk.old k → MatchResult result (λ _. D.keeps desk.new (synced k)) (Rests (D.keeps desk.new) k) }
+    ensures keeps { (k : Kept) → D.keeps desk.old k → MatchResult result (λ _. D.keeps desk.new (synced k)) (Rests (D.keeps desk.new) k (FindsOf (D.finds desk.new) k)) }
     ensures letter { OnOk result (page.new.bytes.items ≡ encode_letter (letter_for committed vector.now.all (D.state desk.old))) }
     ensures answer { MatchResult result
         (Told (D.state desk.old) (D.state desk.new) (commands.Letter committed vector.now))
@@ -137,7 +144,7 @@ fn summary(committed: u64, vector: &RawVector) -> Result<Summary, Refusal>
 // A letter comes. One that has more bytes than any letter is none.
 fn hear<D: Desk>(desk: &mut D, page: &mut Page, letter: Hex) -> Result<Reply, Unplayed>
     ensures taken { OnOk result (length (bytes_of letter.entry.digits.now) ≤ 98345 → result ≡ Ok Takings) }
-    ensures keeps { (k : Kept) → D.keeps desk.old k → MatchResult result (λ _. LineLeaves (D.keeps desk.new) commands.Take (bytes_of letter.entry.digits.now) k) (Rests (D.keeps desk.new) k) }
+    ensures keeps { (k : Kept) → D.keeps desk.old k → MatchResult result (λ _. LineLeaves (D.keeps desk.new) commands.Take (bytes_of letter.entry.digits.now) k) (Rests (D.keeps desk.new) k (FindsOf (D.finds desk.new) (take_bytes (bytes_of letter.entry.digits.now) k))) }
     ensures report { (k : Kept) → D.keeps desk.old k → OnOk result (LineBrings (D.kept_out desk.new) (D.came desk.new) commands.Take (bytes_of letter.entry.digits.now) k) }
     ensures answer { MatchResult result
         (Told (D.state desk.old) (D.state desk.new) commands.Take)
@@ -154,7 +161,7 @@ fn hear<D: Desk>(desk: &mut D, page: &mut Page, letter: Hex) -> Result<Reply, Un
 
 // What is shown is synced first, also where the answer is a refusal.
 fn show<D: Desk>(desk: &mut D, command: &Command) -> Result<Reply, Unplayed>
-    ensures keeps { (k : Kept) → D.keeps desk.old k → MatchResult result (λ _. D.keeps desk.new k ⊎ D.keeps desk.new (synced k)) (Rests (D.keeps desk.new) k) }
+    ensures keeps { (k : Kept) → D.keeps desk.old k → MatchResult result (λ _. LineShows (D.keeps desk.new) command.now k) (Rests (D.keeps desk.new) k (FindsOf (D.finds desk.new) k)) }
     ensures answer { MatchResult result
         (Shown (D.state desk.new) command.now)
         (λ e. elim e [ Memory ↦ ⊥ | Refused w ↦ Hidden (D.state desk.new) command.now (number_of w) | Failed f ↦ D.shut desk.new ]) }

@@ -5,6 +5,7 @@ ghost use Rattle.bookings.specs.Plain.{plain_kind, plain_mark};
 ghost use Rattle.desk.specs.Failures.{Undone, Unwritten};
 ghost use Rattle.desk.specs.Steps.{Leaves, Rests};
 ghost use Rattle.entry_log.specs.Logs.{first_mark};
+ghost use Rattle.journal.specs.Finding.{FindsOf};
 ghost use Rattle.journal.specs.History.{Kept, synced, makes, commits};
 ghost use Rattle.journal.specs.Keeping.{InStep, Moves, state_by};
 ghost use Rattle.letters.specs.Laws.{LetterOk};
@@ -56,6 +57,8 @@ impl<J: Journal + Drop> Desk for Station<J> {
 
     ghost keeps = { λ s k. InStep J.keeps s.keeper k };
 
+    ghost finds = { λ s bs. J.finds s.keeper.journal bs };
+
     ghost unsynced = { λ s. J.clean s.keeper.journal ≡ false };
 
     ghost shut = { λ s. J.shut s.keeper.journal ≡ true };
@@ -70,8 +73,8 @@ impl<J: Journal + Drop> Desk for Station<J> {
             (λ e. Undone e (λ n. make_refusal (plain_kind kind) (state_by self.old.keeper) ≡ Some n) (J.Journal.shut self.new.keeper.journal ≡ true)) }
         ensures kept { MatchResult result
             (λ _. Moves J.Journal.keeps self.old.keeper self.new.keeper (λ k. synced (makes (plain_kind kind) k)))
-            (Leaves J.Journal.keeps J.Journal.lasts self.old.keeper self.new.keeper) }
-        ensures keeps { (k : Kept) → InStep J.Journal.keeps self.old.keeper k → MatchResult result (λ _. InStep J.Journal.keeps self.new.keeper (synced (makes (plain_kind kind) k))) (Rests (InStep J.Journal.keeps self.new.keeper) k) }
+            (Leaves J.Journal.keeps J.Journal.finds self.old.keeper self.new.keeper (makes (plain_kind kind))) }
+        ensures keeps { (k : Kept) → InStep J.Journal.keeps self.old.keeper k → MatchResult result (λ _. InStep J.Journal.keeps self.new.keeper (synced (makes (plain_kind kind) k))) (Rests (InStep J.Journal.keeps self.new.keeper) k (FindsOf (J.Journal.finds self.new.keeper.journal) (makes (plain_kind kind) k))) }
     {
         Ok(self.keeper.make(kind)?)
     }
@@ -84,8 +87,8 @@ impl<J: Journal + Drop> Desk for Station<J> {
             (λ m. MatchOption m
             (Moves J.Journal.keeps self.old.keeper self.new.keeper commits)
             (λ _. Moves J.Journal.keeps self.old.keeper self.new.keeper (λ k. synced (commits k))))
-            (Leaves J.Journal.keeps J.Journal.lasts self.old.keeper self.new.keeper) }
-        ensures keeps { (k : Kept) → InStep J.Journal.keeps self.old.keeper k → MatchResult result (λ _. InStep J.Journal.keeps self.new.keeper (commits k) ⊎ InStep J.Journal.keeps self.new.keeper (synced (commits k))) (Rests (InStep J.Journal.keeps self.new.keeper) k) }
+            (Leaves J.Journal.keeps J.Journal.finds self.old.keeper self.new.keeper commits) }
+        ensures keeps { (k : Kept) → InStep J.Journal.keeps self.old.keeper k → MatchResult result (λ _. InStep J.Journal.keeps self.new.keeper (commits k) ⊎ InStep J.Journal.keeps self.new.keeper (synced (commits k))) (Rests (InStep J.Journal.keeps self.new.keeper) k (FindsOf (J.Journal.finds self.new.keeper.journal) (commits k))) }
     {
         Ok(self.keeper.commit()?)
     }
@@ -96,9 +99,9 @@ impl<J: Journal + Drop> Desk for Station<J> {
             (λ e. Undone e (λ _. ⊥) (J.Journal.shut self.new.keeper.journal ≡ true)) }
         ensures kept { MatchResult result
             (λ _. Moves J.Journal.keeps self.old.keeper self.new.keeper synced)
-            (Leaves J.Journal.keeps J.Journal.lasts self.old.keeper self.new.keeper) }
+            (Leaves J.Journal.keeps J.Journal.finds self.old.keeper self.new.keeper (λ k. k)) }
         ensures state { state_by self.new.keeper ≡ state_by self.old.keeper }
-        ensures keeps { (k : Kept) → InStep J.Journal.keeps self.old.keeper k → MatchResult result (λ _. InStep J.Journal.keeps self.new.keeper (synced k)) (Rests (InStep J.Journal.keeps self.new.keeper) k) }
+        ensures keeps { (k : Kept) → InStep J.Journal.keeps self.old.keeper k → MatchResult result (λ _. InStep J.Journal.keeps self.new.keeper (synced k)) (Rests (InStep J.Journal.keeps self.new.keeper) k (FindsOf (J.Journal.finds self.new.keeper.journal) k)) }
     {
         self.keeper.sync()?;
         Ok(())
@@ -111,8 +114,8 @@ impl<J: Journal + Drop> Desk for Station<J> {
         ensures letter { OnOk result (page.new.bytes.items ≡ encode_letter (letter_for has.now.committed has.now.vector.stamps (state_by self.old.keeper))) }
         ensures kept { MatchResult result
             (λ _. Moves J.Journal.keeps self.old.keeper self.new.keeper synced)
-            (Leaves J.Journal.keeps J.Journal.lasts self.old.keeper self.new.keeper) }
-        ensures keeps { (k : Kept) → InStep J.Journal.keeps self.old.keeper k → MatchResult result (λ _. InStep J.Journal.keeps self.new.keeper (synced k)) (Rests (InStep J.Journal.keeps self.new.keeper) k) }
+            (Leaves J.Journal.keeps J.Journal.finds self.old.keeper self.new.keeper (λ k. k)) }
+        ensures keeps { (k : Kept) → InStep J.Journal.keeps self.old.keeper k → MatchResult result (λ _. InStep J.Journal.keeps self.new.keeper (synced k)) (Rests (InStep J.Journal.keeps self.new.keeper) k (FindsOf (J.Journal.finds self.new.keeper.journal) k)) }
     {
         page.bytes.clear();
         letter_for(&mut self.keeper, has, &mut self.parcel, &mut page.bytes)?;
@@ -123,9 +126,9 @@ impl<J: Journal + Drop> Desk for Station<J> {
         ensures answer { MatchResult result (λ _. Unit {0}) (λ e. Undone e (λ _. ⊥) (J.Journal.shut self.new.keeper.journal ≡ true)) }
         ensures kept { MatchResult result
             (λ _. Moves J.Journal.keeps self.old.keeper self.new.keeper (take_bytes bytes.now))
-            (Leaves J.Journal.keeps J.Journal.lasts self.old.keeper self.new.keeper) }
+            (Leaves J.Journal.keeps J.Journal.finds self.old.keeper self.new.keeper (take_bytes bytes.now)) }
         ensures report { (k : Kept) → InStep J.Journal.keeps self.old.keeper k → OnOk result (Reports self.new.report (read_letter bytes.now) k) }
-        ensures keeps { (k : Kept) → InStep J.Journal.keeps self.old.keeper k → MatchResult result (λ _. InStep J.Journal.keeps self.new.keeper (take_bytes bytes.now k)) (Rests (InStep J.Journal.keeps self.new.keeper) k) }
+        ensures keeps { (k : Kept) → InStep J.Journal.keeps self.old.keeper k → MatchResult result (λ _. InStep J.Journal.keeps self.new.keeper (take_bytes bytes.now k)) (Rests (InStep J.Journal.keeps self.new.keeper) k (FindsOf (J.Journal.finds self.new.keeper.journal) (take_bytes bytes.now k))) }
     {
         take(&mut self.keeper, bytes, &mut self.report)?;
         Ok(())
@@ -145,4 +148,8 @@ impl<J: Journal + Drop> Desk for Station<J> {
         }
         Some(self.report.rejected())
     }
+
+    ghost told_by = { λ _ _ in_step. in_step.state };
+
+    ghost finds_only = { λ s _ in_step found at. J.found_after s.keeper.journal _ _ in_step.bytes found at };
 }

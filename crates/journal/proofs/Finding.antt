@@ -2,7 +2,7 @@
 use Rattle.std.proofs.Common.{ℕ, ◌≤◌, min, List, ◌++◌, length, sym, ap, ◌∙◌, arith}
 use Rattle.std.proofs.lemmas.List.{take-append-le}
 use Rattle.journal.specs.Finding.{Found, FoundOf}
-use Rattle.journal.specs.History.{PlainRecord, Kept, history_of, wrote}
+use Rattle.journal.specs.History.{PlainRecord, Kept, history_of, synced, wrote}
 use Rattle.journal.specs.Laws.{OpensAfterStop}
 use Rattle.journal.specs.Records.{bytes_of, encode_record, history_in}
 use Rattle.journal.proofs.Keeping.{durable-within}
@@ -19,6 +19,10 @@ found_behind bs more synced found within f =
 -- as if a record more were written, that a crash loses
 pub found_wrote : (r : PlainRecord) (k : Kept) (found : List ℕ) → FoundOf k found → FoundOf (wrote r k) found
 found_wrote r k found = found_behind (bytes_of (history_of k)) (encode_record r) (length (bytes_of k.durable)) found (durable-within k.durable k.pending)
+
+-- what is found of all that is synced is found of it before that
+pub found_before : (k : Kept) (found : List ℕ) → FoundOf (synced k) found → FoundOf k found
+found_before k found f = (f.0, omega (arith, f.1, durable-within k.durable k.pending), f.2)
 
 pub opens_after_stop_lem : OpensAfterStop
 opens_after_stop_lem k found ok f = let o = opens_after_crash_lem k f.0 ok f.1 in (o.0, ap (history_in k.hut) f.2 ∙ o.1)

@@ -14,3 +14,6 @@ OnlyFinds finds bs synced = (found : List ℕ) → finds found → Found bs sync
 -- and so it is of the bytes of what a replica kept
 abbrev pub FoundOf : Kept → List ℕ → Type 0
 FoundOf k found = Found (bytes_of (history_of k)) (length (bytes_of k.durable)) found
+
+abbrev pub FindsOf : (List ℕ → Type 0) → Kept → Type 0
+FindsOf finds k = (found : List ℕ) → finds found → FoundOf k found

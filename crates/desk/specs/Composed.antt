@@ -1,0 +1,84 @@
+-- A hut among the huts of a network: what a line at it comes to there.
+use Rattle.std.specs.Prelude.{◌≡◌, ℕ, ◌<◌, true, ◌⊎◌, List, [], length, get_or, MatchResult}
+use Rattle.std.specs.declared.result.Result.{Result}
+use Rattle.console.specs.Requests.{asked}
+use Rattle.console.specs.declared.request.Request.{Request}
+use Rattle.console.specs.declared.vector.RawVector.{RawVector}
+use Rattle.console.specs.declared.answer.Answer.TheVariants as answers
+use Rattle.console.specs.declared.command.Command.{Command}
+use Rattle.console.specs.declared.command.Command.TheVariants as commands
+use Rattle.entry_log.specs.declared.vector.Vector.{Vector}
+use Rattle.journal.specs.Finding.{FindsOf}
+use Rattle.journal.specs.History.{Kept, synced, makes, commits}
+use Rattle.letters.specs.Letters.{damaged, read_letter}
+use Rattle.network.specs.Mail.{Mail, Calls, keeping, posting, visited, made_for}
+use Rattle.network.specs.Net.{Guest, served}
+use Rattle.network.specs.Taking.{take_bytes}
+use Rattle.network.specs.declared.unplayed.Unplayed.{Unplayed}
+use Rattle.network.specs.declared.unplayed.Unplayed.TheVariants.{Memory, Refused, Failed}
+use Rattle.desk.specs.declared.reply.Reply.{Reply}
+use Rattle.desk.specs.declared.reply.Reply.TheVariants as replies
+
+-- a letter that is typed is none, or one that some hut wrote; else nothing is promised of the network
+abbrev pub Honest : Mail → Command → (letter : List ℕ) → Type 0
+Honest m commands.Take bs = (read_letter bs ≡ damaged) ⊎ ((nth : ℕ) × (nth < length m.sent) × (bs ≡ get_or m.sent nth []))
+Honest m _ bs = Unit
+
+-- what a line that is done at hut i makes of the network, where the page has such bytes then
+abbrev pub LineDone : (i : ℕ) → Command → (letter page : List ℕ) → Mail → Mail → Type 0
+LineDone i (commands.Make q) bs page m n = n ≡ keeping i (synced (makes (asked q) (m.hut i))) m
+LineDone i commands.Ink bs page m n = (n ≡ keeping i (commits (m.hut i)) m) ⊎ (n ≡ keeping i (synced (commits (m.hut i))) m)
+LineDone i (commands.Letter c v) bs page m n = n ≡ posting i (synced (m.hut i)) page m
+LineDone i commands.Take bs page m n = (n ≡ keeping i (take_bytes bs (m.hut i)) m) ⊎ ((98345 < length bs) × (n ≡ m))
+LineDone i commands.Pass bs page m n = n ≡ m
+LineDone i commands.Help bs page m n = n ≡ m
+LineDone i _ bs page m n = n ≡ keeping i (synced (m.hut i)) m
+
+-- what one makes of it whose journal failed
+abbrev pub LineFailed : (i : ℕ) → Command → (letter : List ℕ) → Mail → Mail → Type 0
+LineFailed i (commands.Make q) bs m n = n ≡ keeping i (makes (asked q) (m.hut i)) m
+LineFailed i commands.Ink bs m n = n ≡ keeping i (commits (m.hut i)) m
+LineFailed i commands.Take bs m n = n ≡ keeping i (take_bytes bs (m.hut i)) m
+LineFailed i _ bs m n = n ≡ m
+
+-- and one that was refused
+abbrev pub LineRefused : (i : ℕ) → Mail → Mail → Type 0
+LineRefused i m n = (n ≡ m) ⊎ (n ≡ keeping i (synced (m.hut i)) m)
+
+-- calls lead there from a network, and that holds of what hut i keeps then
+abbrev pub LedOn : (Kept → Type 0) → (i : ℕ) → Mail → (Mail → Type 0) → Type 0
+LedOn holds i m which = (n : Mail) × Calls m n × which n × holds (n.hut i)
+
+-- THEOREM: whatever the network is before a line at hut i, calls lead to what the line makes of it, and the hut is in step with that; or, where its journal
+-- failed, a stop finds what it may find of that
+abbrev pub LineComposes : (keeps : Kept → Type 0) → (finds : List ℕ → Type 0) → (i : ℕ) → Command → (letter page : List ℕ) → Mail → Result Reply Unplayed → Type 0
+LineComposes keeps finds i c bs page m r =
+    MatchResult r (λ _. LedOn keeps i m (LineDone i c bs page m))
+    (λ e. elim e [
+      | Memory ↦ LedOn keeps i m (LineRefused i m)
+      | Refused why ↦ LedOn keeps i m (LineRefused i m)
+      | Failed fault ↦ LedOn (FindsOf finds) i m (LineFailed i c bs m)
+    ])
+
+-- GUESTS
+
+-- a line is for a guest: its slip is shown, or an entry is to be made where the guest is served
+pub data ForGuest (g i : ℕ) (m : Mail) : Command → Type 0 where
+  shown : (slip : RawVector) → (m.guest g).slip ≡ slip.all → ForGuest g i m (commands.Serve slip)
+  booked : (q : Request) → served (m.guest g) (m.hut i) ≡ true → ForGuest g i m (commands.Make q)
+
+-- what it makes of the network
+abbrev pub guest_line : (g i : ℕ) → Command → Mail → Mail
+guest_line g i (commands.Serve slip) m = visited g i m
+guest_line g i (commands.Make q) m = made_for g i (asked q) m
+guest_line g i _ m = m
+
+-- a guest that is served is told its slip
+abbrev pub SlipTold : Command → Reply → Guest → Type 0
+SlipTold (commands.Serve slip) r x = (v : Vector) × (r ≡ replies.Line (answers.Served v)) × (v.stamps ≡ x.slip)
+SlipTold _ r x = Unit
+
+-- THEOREM: a line that is done for a guest is a call of the guest
+abbrev pub GuestComposes : (keeps : Kept → Type 0) → (g i : ℕ) → Command → Mail → Result Reply Unplayed → Type 0
+GuestComposes keeps g i c m r =
+    MatchResult r (λ reply. LedOn keeps i m (λ n. (n ≡ guest_line g i c m) × SlipTold c reply (n.guest g))) (λ _. Unit)
