@@ -1,6 +1,5 @@
 -- What a line does at a hut is calls of the network.
 use Rattle.std.proofs.Common.{◌≡◌, ℕ, ◌<◌, true, ◌⊎◌, ⊎_elim, Ok, Err, Result, MatchResult, OnOk, List, length, sym, refl, ap, ◌∙◌, subst, inl, inr}
-use Rattle.std.proofs.lemmas.Bool.{eq-eqb}
 use Rattle.bookings.specs.Plain.{PlainKind, book, cancel, change, supply}
 use Rattle.console.specs.Checks.{RequestOk}
 use Rattle.console.specs.Requests.{asked}
@@ -8,10 +7,12 @@ use Rattle.console.specs.declared.request.Request.{Request}
 use Rattle.console.specs.declared.vector.RawVector.{RawVector}
 use Rattle.console.specs.declared.command.Command.{Command}
 use Rattle.console.specs.declared.command.Command.TheVariants as commands
-use Rattle.journal.specs.Finding.{FindsOf}
-use Rattle.journal.specs.History.{Kept, commits, makes, state_in, synced}
+use Rattle.journal.specs.Finding.{FindsOf, FoundOf}
+use Rattle.journal.specs.History.{Kept, commits, makes, opened, state_in, synced}
+use Rattle.journal.specs.Records.{history_in}
 use Rattle.letters.specs.Letters.{encode_letter}
-use Rattle.network.specs.Mail.{Mail, Call, KindRanged, keeping, posting, visited, made_for, make, make_unsynced, commit, commit_unsynced, sync, write, hear_nothing, hear_letter, visit, make_for, none, then}
+use Rattle.network.proofs.Stages.{put_elsewhere, put_here}
+use Rattle.network.specs.Mail.{Mail, Call, KindRanged, keeping, posting, reopened, visited, made_for, make, make_unsynced, commit, commit_unsynced, sync, write, hear_nothing, hear_letter, stop, visit, make_for, none, then}
 use Rattle.network.specs.Net.{huts, put, served, shown as shown_to}
 use Rattle.network.specs.Taking.{letter_for, take_bytes}
 use Rattle.network.specs.declared.unplayed.Unplayed.{Unplayed}
@@ -30,16 +31,13 @@ ranged (cancel m) ok = ok
 ranged (change m cs) ok = ok
 ranged (supply c) ok = ok
 
-put_here : {A : Type 0} (i : ℕ) (x : A) (f : ℕ → A) → put i x f i ≡ x
-put_here i x f = rw (eq-eqb i i refl) refl
-
 module _ (holds : Kept → Type 0) (m : Mail) (i : ℕ) where
   -- one call, and then that holds of what the hut keeps
   led : (k : Kept) (which : Mail → Type 0) → Call m (keeping i k m) → which (keeping i k m) → holds k → LedOn holds i m which
-  led k which call is h = (keeping i k m, then none call, is, subst holds (sym (put_here i k m.hut)) h)
+  led k which call is h = (keeping i k m, then none call, λ j. put_elsewhere i j k m.hut, is, subst holds (sym (put_here i i k m.hut refl)) h)
 
   stays : (which : Mail → Type 0) → which m → holds (m.hut i) → LedOn holds i m which
-  stays which is h = (m, none, is, h)
+  stays which is h = (m, none, λ _ _. refl, is, h)
 
 module _ (m : Mail) (i : ℕ) (low : i < huts) where
   -- bytes that come
@@ -62,8 +60,9 @@ module _ (m : Mail) (i : ℕ) (low : i < huts) where
         let written : page ≡ encode_letter (letter_for count has (state_in (m.hut i))) = is ∙ ap (λ x. encode_letter (letter_for count has x)) same in (
           posting i (synced (m.hut i)) page m,
           then none (subst (λ x. Call m (posting i (synced (m.hut i)) x m)) (sym written) (write i count has low)),
+          λ j. put_elsewhere i j (synced (m.hut i)) m.hut,
           refl,
-          subst keeps (sym (put_here i (synced (m.hut i)) m.hut)) kept,
+          subst keeps (sym (put_here i i (synced (m.hut i)) m.hut refl)) kept,
         )
 
     takes : (bs : List ℕ) → Honest m commands.Take bs → keeps (take_bytes bs (m.hut i)) ⊎ ((98345 < length bs) × keeps (m.hut i))
@@ -134,6 +133,13 @@ line_composes keeps finds shut m i c bs page s t (Err Memory) low same honest le
 line_composes keeps finds shut m i c bs page s t (Err (Refused why)) low same honest left told written = refused m i low keeps left
 line_composes keeps finds shut m i c bs page s t (Err (Failed fault)) low same honest left told written = failed m i low finds c bs honest left
 
+-- a program that is opened again, over what was found
+pub reopens :
+    (keeps : Kept → Type 0) (m : Mail) (i : ℕ) (found : List ℕ) → i < huts → (m.hut i).hut ≡ i → FoundOf (m.hut i) found → keeps (opened i (history_in i found))
+    → LedOn keeps i m (λ n. n ≡ keeping i (reopened found (m.hut i)) m)
+reopens keeps m i found low own f kept =
+    led keeps m i (reopened found (m.hut i)) _ (stop i found low f) refl (subst (λ h. keeps (opened h (history_in h found))) (sym own) kept)
+
 -- a guest whose slip is shown, and one for whom an entry is made
 module _ (keeps : Kept → Type 0) (m : Mail) (g i : ℕ) (low : i < huts) (s t : State) (same : s ≡ state_in (m.hut i)) where
   visits :
@@ -143,11 +149,12 @@ module _ (keeps : Kept → Type 0) (m : Mail) (g i : ℕ) (low : i < huts) (s t 
       let now : t ≡ state_in (m.hut i) = tell (synced (m.hut i)) left in
       let known : served (m.guest g) (m.hut i) ≡ true = ap (λ x. serves x (state_in (m.hut i))) its ∙ ap (serves slip.all) (sym now) ∙ serves-it in
       let slip-is : slip_after slip.all t ≡ (put g (shown_to (m.guest g) (m.hut i)) m.guest g).slip =
-      ap (slip_after slip.all) now ∙ ap (λ x. slip_after x (state_in (m.hut i))) (sym its) ∙ sym (ap (λ x. x.slip) (put_here g (shown_to (m.guest g) (m.hut i)) m.guest)) in (
+      ap (slip_after slip.all) now ∙ ap (λ x. slip_after x (state_in (m.hut i))) (sym its) ∙ sym (ap (λ x. x.slip) (put_here g g (shown_to (m.guest g) (m.hut i)) m.guest refl)) in (
         visited g i m,
         then none (visit g i low known),
+        λ j. put_elsewhere i j (synced (m.hut i)) m.hut,
         (refl, (v, is ∙ ap Line served-is, noted ∙ slip-is)),
-        subst keeps (sym (put_here i (synced (m.hut i)) m.hut)) left,
+        subst keeps (sym (put_here i i (synced (m.hut i)) m.hut refl)) left,
       )
 
   books :
@@ -156,8 +163,9 @@ module _ (keeps : Kept → Type 0) (m : Mail) (g i : ℕ) (low : i < huts) (s t 
   books q reply known left told = (
     made_for g i (asked q) m,
     then none (make_for g i (asked q) low (ranged (asked q) told.0) known (ap (make_refusal (asked q)) (sym same) ∙ told.1)),
+    λ j. put_elsewhere i j (synced (makes (asked q) (m.hut i))) m.hut,
     (refl, tt),
-    subst keeps (sym (put_here i (synced (makes (asked q) (m.hut i))) m.hut)) left,
+    subst keeps (sym (put_here i i (synced (makes (asked q) (m.hut i))) m.hut refl)) left,
   )
 
 pub guest_composes :

@@ -1,5 +1,5 @@
 -- A hut among the huts of a network: what a line at it comes to there.
-use Rattle.std.specs.Prelude.{◌≡◌, ℕ, ◌<◌, true, ◌⊎◌, List, [], length, get_or, MatchResult}
+use Rattle.std.specs.Prelude.{◌≡◌, ◌≢◌, ℕ, ◌<◌, true, ◌⊎◌, List, [], length, get_or, MatchResult}
 use Rattle.std.specs.declared.result.Result.{Result}
 use Rattle.console.specs.Requests.{asked}
 use Rattle.console.specs.declared.request.Request.{Request}
@@ -11,8 +11,9 @@ use Rattle.entry_log.specs.declared.vector.Vector.{Vector}
 use Rattle.journal.specs.Finding.{FindsOf}
 use Rattle.journal.specs.History.{Kept, synced, makes, commits}
 use Rattle.letters.specs.Letters.{damaged, read_letter}
-use Rattle.network.specs.Mail.{Mail, Calls, keeping, posting, visited, made_for}
-use Rattle.network.specs.Net.{Guest, served}
+use Rattle.network.specs.Mail.{Mail, Agrees, Calls, Runs, keeping, posting, visited, made_for}
+use Rattle.network.specs.Net.{Event, Guest, huts, put, served}
+use Rattle.network.specs.Promised.{Promised}
 use Rattle.network.specs.Taking.{take_bytes}
 use Rattle.network.specs.declared.unplayed.Unplayed.{Unplayed}
 use Rattle.network.specs.declared.unplayed.Unplayed.TheVariants.{Memory, Refused, Failed}
@@ -45,9 +46,9 @@ LineFailed i _ bs m n = n ≡ m
 abbrev pub LineRefused : (i : ℕ) → Mail → Mail → Type 0
 LineRefused i m n = (n ≡ m) ⊎ (n ≡ keeping i (synced (m.hut i)) m)
 
--- calls lead there from a network, and that holds of what hut i keeps then
+-- calls at hut i alone lead there from a network, and that holds of what it keeps then
 abbrev pub LedOn : (Kept → Type 0) → (i : ℕ) → Mail → (Mail → Type 0) → Type 0
-LedOn holds i m which = (n : Mail) × Calls m n × which n × holds (n.hut i)
+LedOn holds i m which = (n : Mail) × Calls m n × ((j : ℕ) → j ≢ i → n.hut j ≡ m.hut j) × which n × holds (n.hut i)
 
 -- THEOREM: whatever the network is before a line at hut i, calls lead to what the line makes of it, and the hut is in step with that; or, where its journal
 -- failed, a stop finds what it may find of that
@@ -59,6 +60,29 @@ LineComposes keeps finds i c bs page m r =
       | Refused why ↦ LedOn keeps i m (LineRefused i m)
       | Failed fault ↦ LedOn (FindsOf finds) i m (LineFailed i c bs m)
     ])
+
+-- THE PROGRAMS OF ALL HUTS
+
+-- one that goes on, or that has ended, since it was stopped or its journal failed
+pub data Program (D : Type 0) : Type 0 where
+  goes : D → Program D
+  ended : D → Program D
+
+-- what it says of what is kept at its hut: it is in step with that, or a stop finds what it may find of that
+abbrev pub says : {D : Type 0} → (D → Kept → Type 0) → (D → List ℕ → Type 0) → Program D → Kept → Type 0
+says keeps finds (goes d) k = keeps d k
+says keeps finds (ended d) k = FindsOf (finds d) k
+
+-- a network that calls led to from empty replicas on, and the programs of its huts
+abbrev pub Together : {D : Type 0} → (D → Kept → Type 0) → (D → List ℕ → Type 0) → (ℕ → Program D) → Mail → Type 0
+Together keeps finds programs m = Runs m × ((i : ℕ) → i < huts → says keeps finds (programs i) (m.hut i))
+
+-- LAW: programs that are together stay together when calls at one hut lead on and its program says so, and all laws of the network hold then.
+abbrev pub StayTogether : {D : Type 0} → (D → Kept → Type 0) → (D → List ℕ → Type 0) → Type 0
+StayTogether {D} keeps finds =
+    (programs : ℕ → Program D) (m : Mail) → Together keeps finds programs m
+    → (i : ℕ) (now : Program D) (n : Mail) → Calls m n → ((j : ℕ) → j ≢ i → n.hut j ≡ m.hut j) → says keeps finds now (n.hut i)
+    → Together keeps finds (put i now programs) n × ((es : List Event) × Agrees n es × Promised es)
 
 -- GUESTS
 

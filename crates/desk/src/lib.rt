@@ -4,6 +4,7 @@
 pub mod answers;
 pub mod asks;
 pub mod calls;
+pub mod laws;
 pub mod page;
 pub mod reply;
 pub mod says;

@@ -1,24 +1,33 @@
 // A replica over its journal, with all that its lines need.
-ghost use Rattle.std.specs.Prelude.{◌≡◌, ◌⊎◌, true, false, [], Some, IfOk, MatchOption, MatchResult, OnOk};
+ghost use Rattle.std.specs.Prelude.{◌≡◌, ◌-◌, ◌<◌, ◌≤◌, ◌⊎◌, ℕ, true, false, [], length, Some, IfOk, MatchOption, MatchResult, OnOk};
 ghost use Rattle.std.specs.Option.{option_map};
 ghost use Rattle.bookings.specs.Plain.{plain_kind, plain_mark};
+ghost use Rattle.bookings.specs.Refusals.{number_of};
+ghost use Rattle.desk.specs.Composed.{LedOn};
 ghost use Rattle.desk.specs.Failures.{Undone, Unwritten};
 ghost use Rattle.desk.specs.Steps.{Leaves, Rests};
 ghost use Rattle.entry_log.specs.Logs.{first_mark};
-ghost use Rattle.journal.specs.Finding.{FindsOf};
+ghost use Rattle.journal.specs.Finding.{FindsOf, FoundOf};
 ghost use Rattle.journal.specs.History.{Kept, synced, makes, commits};
 ghost use Rattle.journal.specs.Keeping.{InStep, Moves, state_by};
+ghost use Rattle.journal.specs.Phases.{is_synced, is_shut};
+ghost use Rattle.journal.specs.Records.{bytes_of, history_in};
+ghost use Rattle.journal.specs.declared.opened.NotOpened.TheVariants.{Memory as NoMemory, Refused as NoHut, Failed as Broken};
 ghost use Rattle.letters.specs.Laws.{LetterOk};
 ghost use Rattle.letters.specs.Letters.{encode_letter, read_letter};
 ghost use Rattle.network.specs.declared.unplayed.Unplayed.TheVariants.{Memory, Refused, Failed};
+ghost use Rattle.network.specs.Mail.{Mail, Runs, keeping, reopened};
 ghost use Rattle.network.specs.Taking.{Reports, letter_for, take_bytes};
 ghost use Rattle.replica.specs.Model.{make_refusal, next_mark, is_primary};
 
 use crate::calls::Desk;
 use crate::page::Page;
 use bookings::entry::{Kind, Mark};
+use journal::appender::Appender;
 use journal::journal::Journal;
 use journal::keeper::Keeper;
+use journal::medium::Medium;
+use journal::opened::NotOpened;
 use network::outcome::Outcome;
 use network::report::Report;
 use network::takes::take;
@@ -37,6 +46,13 @@ pub struct Station<J> {
     report: Report,
 }
 
+// A station that was opened, and how many bytes behind the last record were cut off.
+#[derive(Drop)]
+pub struct Opening<M> {
+    pub station: Station<Appender<M>>,
+    pub cut: usize,
+}
+
 impl<J: Journal + Drop> Station<J> {
     pub fn new(heap: Global, keeper: Keeper<J>) -> Result<Station<J>, AllocError>
         ensures { IfOk result (λ s. (s.keeper ≡ keeper) × (s.report.outcomes.items ≡ []) × (s.report.rejected ≡ Some 0)) }
@@ -47,6 +63,25 @@ impl<J: Journal + Drop> Station<J> {
             keeper,
             parcel,
             report,
+        })
+    }
+}
+
+impl<M: Medium + Drop> Station<Appender<M>> {
+    // Opens the journal of a hut on a medium, on which these bytes were found after a stop. What is behind the last record that can stand is cut off.
+    pub fn open(heap: Global, hut: u8, medium: M, found: &[u8]) -> Result<Opening<M>, NotOpened>
+        ensures answer { MatchResult result
+            (λ o. (hut < 16) × (o.cut ≡ length found.now - length (bytes_of (history_in hut found.now))))
+            (λ e. elim e [ NoMemory ↦ Unit {0} | NoHut w ↦ (number_of w ≡ 2) × (16 ≤ hut) | Broken f ↦ Unit {0} ]) }
+        ensures network { (m : Mail) → Runs m → FoundOf (m.hut hut) found.now → M.Medium.holds medium found.now (length (bytes_of (m.hut hut).durable)) → MatchResult result
+            (λ o. LedOn (InStep (λ j bs n. (is_shut j.phase ≡ false) × M.Medium.holds j.medium bs n × (is_synced j.phase ≡ true → n ≡ length bs)) o.station.keeper) hut m (λ n. n ≡ keeping hut (reopened found.now (m.hut hut)) m))
+            (λ _. Unit {0}) }
+    {
+        let opened = Keeper::open(heap, hut, medium, found)?;
+        let station = Station::new(heap, opened.keeper)?;
+        Ok(Opening {
+            station,
+            cut: opened.cut,
         })
     }
 }

@@ -1,9 +1,9 @@
 -- What the programs of all huts do, each over its own journal, is a run of the network.
-use Rattle.std.proofs.Common.{◌≡◌, ℕ, ◌<◌, ◌≤◌, ◌==◌, true, cond, List, [], ◌∷◌, ◌++◌, length, get_or, None, length-append, append_assoc, append-nil, sym, refl, ap, subst, ◌∙◌, inl, inr, arith}
+use Rattle.std.proofs.Common.{◌≡◌, ℕ, ◌<◌, ◌==◌, true, cond, List, [], ◌∷◌, ◌++◌, length, get_or, None, length-append, append_assoc, append-nil, sym, refl, ap, subst, ◌∙◌, inl, inr, arith}
 use Rattle.std.proofs.lemmas.Bool.{cases_lt}
 use Rattle.std.proofs.lemmas.List.{get_or_append_left, get_or_push}
 use Rattle.bookings.specs.Plain.{PlainKind}
-use Rattle.journal.specs.History.{Kept, synced, makes, commits, crashed, opened, history_of, state_in}
+use Rattle.journal.specs.History.{Kept, synced, makes, commits, crashed, opened, state_in}
 use Rattle.journal.proofs.Finding.{opens_after_stop_lem}
 use Rattle.journal.specs.Finding.{FoundOf}
 use Rattle.journal.specs.Records.{Stands}
@@ -215,6 +215,10 @@ calls_on m n (then cs c) es a =
     let v = called _ n c (es ++ w.0) w.1 in
     (w.0 ++ v.0, subst (Agreed n) (append_assoc es w.0 v.0) v.1)
 
+pub calls_after : {m n o : Mail} → Calls m n → Calls n o → Calls m o
+calls_after before none = before
+calls_after before (then cs c) = then (calls_after before cs) c
+
 begins : Agreed no_mail []
 unfolding run
 begins =
@@ -230,4 +234,6 @@ pub mailed : Mailed
 mailed m r = let w = run_of m r in (w.0, w.1.agrees, promised w.0)
 
 pub all_stand : AllStand
-all_stand m r = (run_of m r).1.standing
+all_stand m r i =
+    let w = run_of m r in
+    (ap (λ (k : Kept). k.hut) (w.1.agrees.kept i) ∙ (after_holds w.0).own i, w.1.standing i)

@@ -1,5 +1,5 @@
 -- What the calls of programs write can stand in a journal.
-use Rattle.std.proofs.Common.{◌≡◌, ℕ, suc, ◌<◌, ◌≤◌, List, [], ◌∷◌, ◌++◌, map, Some, None, Option, sym, refl, ap, ◌∙◌, subst, arith}
+use Rattle.std.proofs.Common.{◌≡◌, ℕ, suc, ◌<◌, List, [], ◌∷◌, ◌++◌, map, None, sym, refl, ap, subst, arith}
 use mathlib.Core.List.Memᴰ
 use mathlib.Core.List.{Memᴰ}
 use Rattle.bookings.specs.Plain.{PlainEntry, PlainKind}
@@ -8,16 +8,15 @@ use Rattle.entry_log.specs.Logs.{first_entry}
 use Rattle.entry_log.specs.Waits.{PlainWaiting}
 use Rattle.journal.proofs.Opening.{stands_older}
 use Rattle.journal.proofs.Standing.{commit_stands, history_once, make-stands, settled-stands, taken-stands}
-use Rattle.journal.specs.History.{Kept, Tentative, Committed, PlainRecord, commits, commits_entry, crashed, history_of, makes, opened, state_in, wrote}
-use Rattle.journal.specs.Records.{Stands, history_in}
+use Rattle.journal.specs.History.{Kept, Tentative, Committed, commits, commits_entry, crashed, history_of, makes, state_in, wrote}
 use Rattle.letters.specs.Items.{PlainItem, settled, waiting, placed_from}
 use Rattle.letters.specs.Laws.{EntryOk, LetterOk, WaitingOk}
 use Rattle.letters.specs.Letters.{PlainLetter}
 use Rattle.replica.specs.Model.{entry_made, is_primary, make_refusal}
-use Rattle.network.specs.Items.{Letter, items_taken, record_of, refusal_of, takes}
+use Rattle.network.specs.Items.{Letter, items_taken, refusal_of, takes}
 use Rattle.network.specs.Mail.{KindRanged, Standing}
 use Rattle.network.specs.Net.{huts}
-use Rattle.network.specs.Replicas.{committed_of, tentative_in, tentative_of}
+use Rattle.network.specs.Replicas.{committed_of, tentative_in}
 use Rattle.network.proofs.Lawful.{history_fits}
 use Rattle.network.proofs.Refusals.{make_allowed, unless_by}
 use Rattle.network.proofs.Tests.{cond_by}

@@ -88,9 +88,9 @@ pub record Agrees (m : Mail) (es : List Event) : Type 0 where
 abbrev pub HandsOnLetters : Type 0
 HandsOnLetters = (k : Kept) → Standing k → (count : ℕ) (has : List ℕ) → LetterOk (letter_for count has (state_in k))
 
--- LAW: whatever the programs of all huts do, each record that is written can stand in its journal: so opening the journal finds it again.
+-- LAW: whatever the programs of all huts do, each record that is written can stand in the journal of its hut: so opening that finds it again.
 abbrev pub AllStand : Type 0
-AllStand = (m : Mail) → Runs m → (i : ℕ) → Standing (m.hut i)
+AllStand = (m : Mail) → Runs m → (i : ℕ) → ((m.hut i).hut ≡ i) × Standing (m.hut i)
 
 -- LAW: whatever the programs of all huts do, each over its own journal, with letters as bytes and with stops: it is a run of the network, and all its laws hold.
 abbrev pub Mailed : Type 0

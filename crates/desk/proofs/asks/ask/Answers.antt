@@ -41,7 +41,7 @@ returns-in-Make-clause-guests g c = λ m guest i low kept for.
     (rw c.in-Make.is (c.make.ensures.keeps (m.hut i) kept)) (rw c.in-Make.is c.make.ensures.answer)
 
 pub returns-in-Help-clause-network : goal.returns-in-Help-clause-network
-returns-in-Help-clause-network g c = λ m i low kept honest. rw c.in-Help.is (m, none, refl, kept)
+returns-in-Help-clause-network g c = λ m i low kept honest. rw c.in-Help.is (m, none, λ _ _. refl, refl, kept)
 
 pub returns-in_default-clause-answer : goal.returns-in_default-clause-answer
 returns-in_default-clause-answer g c = search rules
