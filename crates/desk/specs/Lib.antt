@@ -1,3 +1,4 @@
+pub mod Composed
 pub mod Failures
 pub mod Laws
 pub mod Guests

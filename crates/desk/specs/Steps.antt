@@ -1,10 +1,12 @@
 -- What a call leaves that is not done, and what a line leaves that is done.
 use Rattle.std.specs.Prelude.{◌≡◌, ℕ, ◌≤◌, ◌⊎◌, cond, List, map, length, nat_lt, Option}
+use Rattle.console.specs.Checks.{RequestOk}
 use Rattle.console.specs.Requests.{asked}
 use Rattle.console.specs.declared.command.Command.{Command}
 use Rattle.console.specs.declared.command.Command.TheVariants as commands
-use Rattle.journal.specs.History.{Kept, synced, makes}
-use Rattle.journal.specs.Keeping.{Moves, Lasts}
+use Rattle.journal.specs.Finding.{FindsOf}
+use Rattle.journal.specs.History.{Kept, synced, makes, commits}
+use Rattle.journal.specs.Keeping.{Moves, Fails}
 use Rattle.journal.specs.declared.keeper.Keeper.{Keeper}
 use Rattle.letters.specs.Items.{items_of}
 use Rattle.letters.specs.Letters.{encode_letter, read_letter}
@@ -15,21 +17,28 @@ use Rattle.network.specs.declared.unplayed.Unplayed.{Unplayed}
 use Rattle.network.specs.declared.unplayed.Unplayed.TheVariants.{Memory, Refused, Failed}
 use Rattle.replica.specs.Model.{State}
 
--- what is refused changes nothing; where the journal fails, what was synced lasts; memory is never wanted
-abbrev pub Leaves : {J : Type 0} → (J → List ℕ → ℕ → Type 0) → (J → List ℕ → Type 0) → Keeper J → Keeper J → Unplayed → Type 0
-Leaves keeps lasts before after Memory = ⊥
-Leaves keeps lasts before after (Refused why) = Moves keeps before after (λ k. k)
-Leaves keeps lasts before after (Failed fault) = Lasts keeps lasts before after
+-- what is refused changes nothing; where the journal fails, a stop finds what it may find of this; memory is never wanted
+abbrev pub Leaves : {J : Type 0} → (J → List ℕ → ℕ → Type 0) → (J → List ℕ → Type 0) → Keeper J → Keeper J → (Kept → Kept) → Unplayed → Type 0
+Leaves keeps finds before after step Memory = ⊥
+Leaves keeps finds before after step (Refused why) = Moves keeps before after (λ k. k)
+Leaves keeps finds before after step (Failed fault) = Fails keeps finds before after step
 
--- of what was kept: a refusal makes this of it; for want of memory all is as it was, or synced; and where the journal fails nothing is said
-abbrev pub RestsAs : (Kept → Type 0) → Kept → (refused : Kept) → Unplayed → Type 0
-RestsAs keeps k refused Memory = keeps k ⊎ keeps (synced k)
-RestsAs keeps k refused (Refused why) = keeps refused
-RestsAs keeps k refused (Failed fault) = Unit
+-- of what was kept: a refusal makes this of it; for want of memory all is as it was, or synced; and where the journal fails, that holds
+abbrev pub RestsAs : (Kept → Type 0) → Kept → (refused : Kept) → (failed : Type 0) → Unplayed → Type 0
+RestsAs keeps k refused failed Memory = keeps k ⊎ keeps (synced k)
+RestsAs keeps k refused failed (Refused why) = keeps refused
+RestsAs keeps k refused failed (Failed fault) = failed
 
 -- what is refused leaves all as it was
-abbrev pub Rests : (Kept → Type 0) → Kept → Unplayed → Type 0
+abbrev pub Rests : (Kept → Type 0) → Kept → (failed : Type 0) → Unplayed → Type 0
 Rests keeps k = RestsAs keeps k k
+
+-- where the journal fails, a stop finds what it may find of what the line was to keep
+abbrev pub LineFinds : (List ℕ → Type 0) → Command → (letter : List ℕ) → Kept → Type 0
+LineFinds finds (commands.Make q) bs k = RequestOk (asked q) × FindsOf finds (makes (asked q) k)
+LineFinds finds commands.Ink bs k = FindsOf finds (commits k)
+LineFinds finds commands.Take bs k = FindsOf finds (take_bytes bs k)
+LineFinds finds _ bs k = FindsOf finds k
 
 -- so many bytes has the longest letter
 abbrev pub longest : ℕ

@@ -1,20 +1,23 @@
 // What a line asks for is done.
-ghost use Rattle.std.specs.Prelude.{◌≡◌, Ok, Err, MatchResult, OnOk};
+ghost use Rattle.std.specs.Prelude.{◌≡◌, ℕ, ◌<◌, Ok, Err, MatchResult, OnOk};
 ghost use Rattle.bookings.specs.Refusals.{number_of};
 ghost use Rattle.console.specs.Requests.{asked};
-ghost use Rattle.console.specs.Checks.{Fits32, StampsFit};
+ghost use Rattle.console.specs.Checks.{Fits32, RequestOk, StampsFit};
 ghost use Rattle.console.specs.Hexes.{bytes_of};
 ghost use Rattle.console.specs.declared.answer.Answer.TheVariants.{Refused as RefusedAnswer};
 ghost use Rattle.console.specs.declared.command.Command.TheVariants as commands;
+ghost use Rattle.desk.specs.Composed.{ForGuest, GuestComposes, Honest, LineComposes};
 ghost use Rattle.desk.specs.Guests.{LineServes};
-ghost use Rattle.desk.specs.Steps.{LineBrings, LineWrites, Rests, RestsAs, line_makes, line_refused, shows, takes_typed};
+ghost use Rattle.desk.specs.Steps.{LineBrings, LineFinds, LineWrites, Rests, RestsAs, line_makes, line_refused, shows, takes_typed};
 ghost use Rattle.desk.specs.Replies.{Shown, Hidden, Told, TypedTold, Untold};
 ghost use Rattle.desk.specs.declared.reply.Reply.TheVariants.{Line};
-ghost use Rattle.journal.specs.History.{Kept, synced, makes};
+ghost use Rattle.journal.specs.Finding.{FindsOf};
+ghost use Rattle.journal.specs.History.{Kept, synced, makes, commits};
 ghost use Rattle.letters.specs.Letters.{encode_letter};
 ghost use Rattle.network.specs.Effects.{commits_synced};
-ghost use Rattle.network.specs.Net.{Guest};
-ghost use Rattle.network.specs.Taking.{letter_for};
+ghost use Rattle.network.specs.Mail.{Mail};
+ghost use Rattle.network.specs.Net.{Guest, huts};
+ghost use Rattle.network.specs.Taking.{letter_for, take_bytes};
 ghost use Rattle.network.specs.declared.unplayed.Unplayed.TheVariants.{Memory, Refused, Failed};
 ghost use Rattle.replica.specs.Views.{state_of};
 
@@ -46,9 +49,12 @@ pub fn ask<D: Desk>(
     ensures answer { MatchResult result
         (Told (D.state desk.old) (D.state desk.new) command.now)
         (Untold (D.state desk.old) (D.state desk.new) (D.shut desk.new) command.now) }
-    ensures leaves { (k : Kept) → D.keeps desk.old k → MatchResult result (λ _. D.keeps desk.new (line_makes command.now (bytes_of letter.entry.digits.now) k)) (RestsAs (D.keeps desk.new) k (line_refused command.now k)) }
+    ensures leaves { (k : Kept) → D.keeps desk.old k → MatchResult result (λ _. D.keeps desk.new (line_makes command.now (bytes_of letter.entry.digits.now) k)) (RestsAs (D.keeps desk.new) k (line_refused command.now k) (LineFinds (D.finds desk.new) command.now (bytes_of letter.entry.digits.now) k)) }
     ensures writes { OnOk result (LineWrites page.new.bytes.items command.now (D.state desk.old)) }
     ensures brings { (k : Kept) → D.keeps desk.old k → OnOk result (LineBrings (D.kept_out desk.new) (D.came desk.new) command.now (bytes_of letter.entry.digits.now) k) }
+    ensures network { (m : Mail) (i : ℕ) → i < huts → D.keeps desk.old (m.hut i) → Honest m command.now (bytes_of letter.entry.digits.now)
+        → LineComposes (D.keeps desk.new) (D.finds desk.new) i command.now (bytes_of letter.entry.digits.now) page.new.bytes.items m result }
+    ensures guests { (m : Mail) (g i : ℕ) → i < huts → D.keeps desk.old (m.hut i) → ForGuest g i m command.now → GuestComposes (D.keeps desk.new) g i command.now m result }
     ensures serves { (k : Kept) (guest : Guest) → D.keeps desk.old k → LineServes command.now result guest k }
     ensures taken { command.now ≡ commands.Take → OnOk result (TypedTold (bytes_of letter.entry.digits.now) result) }
 {
@@ -80,7 +86,7 @@ pub fn or_refused(asked: Result<Reply, Unplayed>) -> Result<Reply, Unplayed>
 }
 
 fn make<D: Desk>(desk: &mut D, request: &Request) -> Result<Reply, Unplayed>
-    ensures keeps { (k : Kept) → D.keeps desk.old k → MatchResult result (λ _. D.keeps desk.new (synced (makes (asked request.now) k))) (Rests (D.keeps desk.new) k) }
+    ensures keeps { (k : Kept) → D.keeps desk.old k → MatchResult result (λ _. D.keeps desk.new (synced (makes (asked request.now) k))) (Rests (D.keeps desk.new) k (RequestOk (asked request.now) × FindsOf (D.finds desk.new) (makes (asked request.now) k))) }
     ensures answer { MatchResult result
         (Told (D.state desk.old) (D.state desk.new) (commands.Make request.now))
         (Untold (D.state desk.old) (D.state desk.new) (D.shut desk.new) (commands.Make request.now)) }
@@ -92,7 +98,7 @@ fn make<D: Desk>(desk: &mut D, request: &Request) -> Result<Reply, Unplayed>
 
 // What was committed stands last of all that is.
 fn commit<D: Desk>(desk: &mut D) -> Result<Reply, Unplayed>
-    ensures keeps { (k : Kept) → D.keeps desk.old k → MatchResult result (λ _. D.keeps desk.new (commits_synced k)) (Rests (D.keeps desk.new) k) }
+    ensures keeps { (k : Kept) → D.keeps desk.old k → MatchResult result (λ _. D.keeps desk.new (commits_synced k)) (Rests (D.keeps desk.new) k (FindsOf (D.finds desk.new) (commits k))) }
     ensures answer { MatchResult result
         (Told (D.state desk.old) (D.state desk.new) commands.Ink)
         (Untold (D.state desk.old) (D.state desk.new) (D.shut desk.new) commands.Ink) }
@@ -113,7 +119,7 @@ fn write<D: Desk>(
     committed: u64,
     vector: &RawVector,
 ) -> Result<Reply, Unplayed>
-    ensures keeps { (k : Kept) → D.keeps desk.old k → MatchResult result (λ _. D.keeps desk.new (synced k)) (Rests (D.keeps desk.new) k) }
+    ensures keeps { (k : Kept) → D.keeps desk.old k → MatchResult result (λ _. D.keeps desk.new (synced k)) (Rests (D.keeps desk.new) k (FindsOf (D.finds desk.new) k)) }
     ensures letter { OnOk result (page.new.bytes.items ≡ encode_letter (letter_for committed vector.now.all (D.state desk.old))) }
     ensures answer { MatchResult result
         (Told (D.state desk.old) (D.state desk.new) (commands.Letter committed vector.now))
@@ -141,7 +147,7 @@ fn summary(committed: u64, vector: &RawVector) -> Result<Summary, Refusal>
 // A letter comes. One that has more bytes than any letter is none.
 fn hear<D: Desk>(desk: &mut D, page: &mut Page, letter: Hex) -> Result<Reply, Unplayed>
     ensures taken { OnOk result (TypedTold (bytes_of letter.entry.digits.now) result) }
-    ensures keeps { (k : Kept) → D.keeps desk.old k → MatchResult result (λ _. D.keeps desk.new (takes_typed (bytes_of letter.entry.digits.now) k)) (Rests (D.keeps desk.new) k) }
+    ensures keeps { (k : Kept) → D.keeps desk.old k → MatchResult result (λ _. D.keeps desk.new (takes_typed (bytes_of letter.entry.digits.now) k)) (Rests (D.keeps desk.new) k (FindsOf (D.finds desk.new) (take_bytes (bytes_of letter.entry.digits.now) k))) }
     ensures report { (k : Kept) → D.keeps desk.old k → OnOk result (LineBrings (D.kept_out desk.new) (D.came desk.new) commands.Take (bytes_of letter.entry.digits.now) k) }
     ensures answer { MatchResult result
         (Told (D.state desk.old) (D.state desk.new) commands.Take)
@@ -158,7 +164,7 @@ fn hear<D: Desk>(desk: &mut D, page: &mut Page, letter: Hex) -> Result<Reply, Un
 
 // What is shown is synced first, also where the answer is a refusal.
 fn show<D: Desk>(desk: &mut D, command: &Command) -> Result<Reply, Unplayed>
-    ensures keeps { (k : Kept) → D.keeps desk.old k → MatchResult result (λ _. D.keeps desk.new (shows command.now k)) (RestsAs (D.keeps desk.new) k (shows command.now k)) }
+    ensures keeps { (k : Kept) → D.keeps desk.old k → MatchResult result (λ _. D.keeps desk.new (shows command.now k)) (RestsAs (D.keeps desk.new) k (shows command.now k) (FindsOf (D.finds desk.new) k)) }
     ensures serves { (k : Kept) (guest : Guest) → D.keeps desk.old k → LineServes command.now result guest k }
     ensures answer { MatchResult result
         (Shown (D.state desk.new) command.now)

@@ -5,7 +5,8 @@ ghost use Rattle.bookings.specs.Plain.{plain_kind, plain_mark};
 ghost use Rattle.desk.specs.Failures.{Undone, Unwritten};
 ghost use Rattle.desk.specs.Steps.{Rests};
 ghost use Rattle.entry_log.specs.Logs.{first_mark};
-ghost use Rattle.journal.specs.History.{Kept, makes, state_in, synced};
+ghost use Rattle.journal.specs.Finding.{FindsOf};
+ghost use Rattle.journal.specs.History.{Kept, commits, makes, state_in, synced};
 ghost use Rattle.letters.specs.Items.{items_of};
 ghost use Rattle.letters.specs.Letters.{encode_letter, read_letter};
 ghost use Rattle.network.specs.Effects.{commits_synced};
@@ -29,6 +30,9 @@ pub trait Desk {
     // What is kept of it: the history of its journal.
     ghost keeps: { Self → Kept → Type 0 };
 
+    // These bytes may be found of its journal after a stop.
+    ghost finds: { Self → List ℕ → Type 0 };
+
     // Something of it is not synced.
     ghost unsynced: { Self → Type 0 };
 
@@ -45,32 +49,30 @@ pub trait Desk {
         ensures answer { MatchResult result
             (λ m. (make_refusal (plain_kind kind) (state self.old) ≡ None) × (plain_mark m ≡ next_mark (state self.old)))
             (λ e. Undone e (λ n. make_refusal (plain_kind kind) (state self.old) ≡ Some n) (shut self.new)) }
-        ensures keeps { (k : Kept) → keeps self.old k → MatchResult result (λ _. keeps self.new (synced (makes (plain_kind kind) k))) (Rests (keeps self.new) k) };
+        ensures keeps { (k : Kept) → keeps self.old k → MatchResult result (λ _. keeps self.new (synced (makes (plain_kind kind) k))) (Rests (keeps self.new) k (FindsOf (finds self.new) (makes (plain_kind kind) k))) };
 
     // Commits the first tentative entry, if there is one, and syncs that.
     fn commit(&mut self) -> Result<Option<Mark>, Unplayed>
         ensures answer { MatchResult result
             (λ m. (is_primary (state self.old) ≡ true) × (option_map plain_mark m ≡ first_mark (state self.old).log.tentative))
             (λ e. Undone e (λ n. (is_primary (state self.old) ≡ false) × (n ≡ 6)) (shut self.new)) }
-        ensures keeps { (k : Kept) → keeps self.old k → MatchResult result (λ _. keeps self.new (commits_synced k)) (Rests (keeps self.new) k) }
-        ensures first { (k : Kept) → keeps self.old k → IfOk result (λ m. option_map plain_mark m ≡ first_mark (state_in k).log.tentative) };
+        ensures keeps { (k : Kept) → keeps self.old k → MatchResult result (λ _. keeps self.new (commits_synced k)) (Rests (keeps self.new) k (FindsOf (finds self.new) (commits k))) };
 
     // All that it knows is synced.
     fn sync(&mut self) -> Result<(), Unplayed>
         ensures answer { MatchResult result (λ _. unsynced self.new → ⊥) (λ e. Undone e (λ _. ⊥) (shut self.new)) }
-        ensures keeps { (k : Kept) → keeps self.old k → MatchResult result (λ _. keeps self.new (synced k)) (Rests (keeps self.new) k) }
-        ensures known { (k : Kept) → keeps self.old k → OnOk result (state self.new ≡ state_in k) };
+        ensures keeps { (k : Kept) → keeps self.old k → MatchResult result (λ _. keeps self.new (synced k)) (Rests (keeps self.new) k (FindsOf (finds self.new) k)) };
 
     // Syncs, and writes a letter for one that has what a summary says.
     fn write(&mut self, has: &Summary, page: &mut Page) -> Result<(), Unplayed>
         ensures answer { MatchResult result (λ _. Unit {0}) Unwritten }
         ensures letter { OnOk result (page.new.bytes.items ≡ encode_letter (letter_for has.now.committed has.now.vector.stamps (state self.old))) }
-        ensures keeps { (k : Kept) → keeps self.old k → MatchResult result (λ _. keeps self.new (synced k)) (Rests (keeps self.new) k) };
+        ensures keeps { (k : Kept) → keeps self.old k → MatchResult result (λ _. keeps self.new (synced k)) (Rests (keeps self.new) k (FindsOf (finds self.new) k)) };
 
     // Bytes come, whatever they are.
     fn hear(&mut self, bytes: &[u8]) -> Result<(), Unplayed>
         ensures answer { MatchResult result (λ _. Unit {0}) (λ e. Undone e (λ _. ⊥) (shut self.new)) }
-        ensures keeps { (k : Kept) → keeps self.old k → MatchResult result (λ _. keeps self.new (take_bytes bytes.now k)) (Rests (keeps self.new) k) }
+        ensures keeps { (k : Kept) → keeps self.old k → MatchResult result (λ _. keeps self.new (take_bytes bytes.now k)) (Rests (keeps self.new) k (FindsOf (finds self.new) (take_bytes bytes.now k))) }
         ensures report { (k : Kept) → keeps self.old k → OnOk result
             ((kept_out self.new ≡ told_out (read_letter bytes.now)) × (map plain_outcome (came self.new) ≡ outcomes_of (items_of (read_letter bytes.now)) k)) };
 
@@ -85,4 +87,10 @@ pub trait Desk {
     // How many of them were kept out; nothing where it was damaged, and kept out whole.
     fn rejected(&self) -> Option<usize>
         ensures { result ≡ kept_out self.now };
+
+    // What is kept of it tells what its replica knows,
+    ghost told_by: { (d : Self) (k : Kept) → keeps d k → state d ≡ state_in k };
+
+    // and what a stop finds: all that was synced, and some first part of the rest.
+    ghost finds_only: { (d : Self) (k : Kept) → keeps d k → FindsOf (finds d) k };
 }

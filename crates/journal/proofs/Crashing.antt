@@ -14,7 +14,7 @@ use Rattle.journal.proofs.Keeping.{durable-within}
 use Rattle.journal.proofs.Opening.{opens_after_crash_lem}
 
 -- what is synced is not shut
-not_shut : (p : Phase) → is_synced p ≡ true → is_shut p ≡ false
+pub not_shut : (p : Phase) → is_synced p ≡ true → is_shut p ≡ false
 not_shut Synced is = refl
 not_shut Written is = absurd (false≢true is)
 not_shut Shut is = absurd (false≢true is)

@@ -1,10 +1,9 @@
 -- A replica and its journal stay in step: a record more, and a sync.
-use Rattle.std.proofs.Common.{◌≡◌, ℕ, ◌+◌, ◌*◌, ◌≤◌, true, cond, List, [], ◌∷◌, ◌++◌, length, take, None, Option, sym, ap, ◌∙◌, subst, arith, length-append}
+use Rattle.std.proofs.Common.{◌≡◌, ℕ, ◌+◌, ◌*◌, ◌≤◌, true, cond, List, [], ◌∷◌, ◌++◌, length, None, Option, sym, ap, ◌∙◌, subst, arith, length-append}
 use Rattle.bookings.specs.Plain.{PlainMark, PlainKind, PlainEntry}
 use Rattle.letters.specs.Laws.{EntryOk}
 use Rattle.entry_log.specs.Logs.{all_of, first_entry}
 use Rattle.replica.specs.Model.{State, entry_made, made, next_mark, is_primary, make_refusal, take_tentative_refusal, take_committed_refusal}
-use Rattle.std.proofs.lemmas.List.{take_all, take-append-le}
 use Rattle.journal.specs.History.{PlainRecord, Tentative, Committed, Kept, history_of, state_in, wrote, synced, unless, makes, commits, commits_entry, takes_tentative, takes_committed}
 use Rattle.journal.specs.Keeping.{Keeps, Follows, most_bytes}
 use Rattle.journal.specs.Records.{encode_record, bytes_of, with_record, replay_refusal, entry_of, Stands}
@@ -55,19 +54,6 @@ module _ (had has : List ℕ → ℕ → Type 0) (s t : State) (k : Kept) (in_st
 pub durable-within : (older rs : List PlainRecord) → length (bytes_of older) ≤ length (bytes_of (rs ++ older))
 durable-within older [] = omega arith
 durable-within older (r ∷ rs) = omega (arith, durable-within older rs, length-append (bytes_of (rs ++ older)) (encode_record r))
-
--- the first bytes of a history are those of its durable part
-pub durable-first : (k : Kept) → take (length (bytes_of k.durable)) (bytes_of (history_of k)) ≡ bytes_of k.durable
-durable-first k = first k.pending
-  where
-    first : (rs : List PlainRecord) → take (length (bytes_of k.durable)) (bytes_of (rs ++ k.durable)) ≡ bytes_of k.durable
-    first [] = take_all (length (bytes_of k.durable)) (bytes_of k.durable) (omega arith)
-    first (r ∷ rs) = take-append-le (length (bytes_of k.durable)) (bytes_of (rs ++ k.durable)) (encode_record r) (durable-within k.durable rs) ∙ first rs
-
--- what is durable lasts
-pub durable_lasts :
-    (had : List ℕ → ℕ → Type 0) (stays : List ℕ → Type 0) (s : State) (k : Kept) → Keeps had s k → ((bs : List ℕ) (n : ℕ) → had bs n → stays (take n bs)) → stays (bytes_of k.durable)
-durable_lasts had stays s k in_step law = subst stays (durable-first k) (law (bytes_of (history_of k)) (length (bytes_of k.durable)) in_step.bytes)
 
 -- WHAT EACH CALL WRITES
 

@@ -93,7 +93,7 @@ cut_to hut (r ∷ pending) durable n ok h =
           part_is_short = c.part_is_short;
         }
 
-stands_older : (hut lost : ℕ) (pending durable : List PlainRecord) → Stands hut (pending ++ durable) → Stands hut (drop lost pending ++ durable)
+pub stands_older : (hut lost : ℕ) (pending durable : List PlainRecord) → Stands hut (pending ++ durable) → Stands hut (drop lost pending ++ durable)
 stands_older hut zero pending durable ok = ok
 stands_older hut (suc lost) [] durable ok = ok
 stands_older hut (suc lost) (r ∷ pending) durable ok = stands_older hut lost pending durable ok.2

@@ -133,6 +133,25 @@ log_grows hut (Committed e) rs ok =
       | inr f ↦ omega (arith, new_length e (log_of rs) f)
     ]
 
+-- a committed entry that was not known had room
+unknown_room : (e : PlainEntry) (s : State) → has e.mark s.log.tentative ≡ false → replay_refusal (Committed e) s ≡ None → no_room s e.mark.stamp ≡ false
+unknown_room e s new q = (past (no_room s e.mark.stamp) 8 None (unknown new (after-place (length s.log.committed) e.mark s q).1)).0
+  where
+    unknown : has e.mark s.log.tentative ≡ false → cond {A = Option ℕ} (has e.mark s.log.tentative) None (cond (no_room s e.mark.stamp) (Some 8) None) ≡ None → cond {A = Option ℕ} (no_room s e.mark.stamp) (Some 8) None ≡ None
+    unknown f after = rw f at after
+
+-- a history that can stand has no more entries than a replica can have
+pub log_bounded : (hut : ℕ) (rs : List PlainRecord) → Stands hut rs → length (all_of (log_of rs)) ≤ 65536
+log_bounded hut [] ok = omega arith
+log_bounded hut (Tentative e ∷ rs) ok =
+    let room = tentative_room e no_stamps (state_with hut rs) ok.1 in
+    omega (arith, tentative-length e (log_of rs), room_below (state_with hut rs) e.mark.stamp room)
+log_bounded hut (Committed e ∷ rs) ok =
+    elim (cases_Bool (has e.mark (log_of rs).tentative)) [
+      | inl t ↦ omega (arith, log_bounded hut rs ok.2, known_length e (log_of rs) t (history_once hut rs ok.2))
+      | inr f ↦ omega (arith, new_length e (log_of rs) f, room_below (state_with hut rs) e.mark.stamp (unknown_room e (state_with hut rs) f ok.1))
+    ]
+
 -- there is room for a record that can stand
 pub records_few :
     (hut : ℕ) (r : PlainRecord) (rs : List PlainRecord) → Stands hut rs → replay_refusal r (state_with hut rs) ≡ None → length (all_of (log_of (r ∷ rs))) ≤ 65536 → length rs < most_records
@@ -142,15 +161,11 @@ records_few hut (Tentative e) rs ok q few =
 records_few hut (Committed e) rs ok q few =
     let counted = records_counted hut rs ok in
     let parts = length-append (log_of rs).committed (log_of rs).tentative in
-    let after = (after-place (length (log_of rs).committed) e.mark (state_with hut rs) q).1 in
     elim (cases_Bool (has e.mark (log_of rs).tentative)) [
       | inl t ↦ omega (arith, counted, parts, few, log_grows hut (Committed e) rs ok, has-length e.mark (log_of rs).tentative t)
-      | inr f ↦ omega (arith, counted, parts, room_below (state_with hut rs) e.mark.stamp (past (no_room (state_with hut rs) e.mark.stamp) 8 None (unknown f after)).0)
+      | inr f ↦ omega (arith, counted, parts, room_below (state_with hut rs) e.mark.stamp (unknown_room e (state_with hut rs) f q))
     ]
   where
-    unknown : has e.mark (log_of rs).tentative ≡ false → cond {A = Option ℕ} (has e.mark (log_of rs).tentative) None (cond (no_room (state_with hut rs) e.mark.stamp) (Some 8) None) ≡ None → cond {A = Option ℕ} (no_room (state_with hut rs) e.mark.stamp) (Some 8) None ≡ None
-    unknown f after = rw f at after
-
     has-length : (m : PlainMark) (ts : List PlainEntry) → has m ts ≡ true → 1 ≤ length ts
     has-length m [] t = absurd (let z : ◌≡◌ {A = ℕ} 0 1 = cc in omega arith)
     has-length m (x ∷ ts) t = omega arith

@@ -7,6 +7,7 @@ use Rattle.journal.specs.declared.appender.Appender.{Appender}
 use Rattle.journal.specs.declared.memory.Memory.{Memory}
 use Rattle.journal.specs.Phases.{is_synced, is_shut}
 use Rattle.journal.specs.History.{PlainRecord, Kept, history_of, state_in}
+use Rattle.journal.specs.Finding.{FindsOf}
 use Rattle.journal.specs.Records.{bytes_of, with_record, replay_refusal, Stands}
 
 -- the journal has the bytes of a history, those of its durable part synced, and the replica is what the history makes
@@ -27,9 +28,10 @@ InStep keeps q k = Keeps (keeps q.journal) (state_of q.replica) k
 abbrev pub Moves : {J : Type 0} → (J → List ℕ → ℕ → Type 0) → Keeper J → Keeper J → (Kept → Kept) → Type 0
 Moves keeps before after step = (k : Kept) → InStep keeps before k → InStep keeps after (step k)
 
--- whatever is kept before a call that fails, its durable part lasts
-abbrev pub Lasts : {J : Type 0} → (J → List ℕ → ℕ → Type 0) → (J → List ℕ → Type 0) → Keeper J → Keeper J → Type 0
-Lasts keeps lasts before after = (k : Kept) → InStep keeps before k → lasts after.journal (bytes_of k.durable)
+-- whatever is kept before a call that fails, a stop leaves what it may leave of this: all that was synced before, and of what the call would have
+-- written behind it some first part
+abbrev pub Fails : {J : Type 0} → (J → List ℕ → ℕ → Type 0) → (J → List ℕ → Type 0) → Keeper J → Keeper J → (Kept → Kept) → Type 0
+Fails keeps finds before after step = (k : Kept) → InStep keeps before k → FindsOf (finds after.journal) (step k)
 
 -- the state of its replica
 abbrev pub state_by : {J : Type 0} → Keeper J → State

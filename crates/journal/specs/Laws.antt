@@ -1,5 +1,6 @@
 -- What holds of journals.
 use Rattle.std.specs.Prelude.{◌≡◌, ℕ, ◌≤◌, List, length, take}
+use Rattle.journal.specs.Finding.{FoundOf}
 use Rattle.journal.specs.History.{PlainRecord, Kept, history_of, crashed}
 use Rattle.journal.specs.Records.{bytes_of, history_in, Stands}
 
@@ -12,6 +13,11 @@ abbrev pub OpensAfterCrash : Type 0
 OpensAfterCrash =
     (k : Kept) (n : ℕ) → Stands k.hut (history_of k) → length (bytes_of k.durable) ≤ n
     → (lost : ℕ) × (history_in k.hut (take n (bytes_of (history_of k))) ≡ history_of (crashed lost k))
+
+-- so it is with whatever is found after a stop
+abbrev pub OpensAfterStop : Type 0
+OpensAfterStop =
+    (k : Kept) (found : List ℕ) → Stands k.hut (history_of k) → FoundOf k found → (lost : ℕ) × (history_in k.hut found ≡ history_of (crashed lost k))
 
 -- two histories that can stand and have the same bytes are one
 abbrev pub BytesTellHistory : Type 0

@@ -1,6 +1,7 @@
 // A journal over a medium. After a failed write or sync it takes no more.
 ghost use Rattle.std.specs.Prelude.{◌≡◌, ℕ, ◌+◌, ◌<◌, ◌≤◌, Bool, true, false, not, List, ◌++◌, length, take, is_ok, MatchResult};
 ghost use Rattle.std.proofs.Common.{rules};
+ghost use Rattle.journal.specs.Finding.{OnlyFinds};
 ghost use Rattle.journal.specs.Phases.{is_synced, is_shut};
 ghost use Rattle.journal.specs.declared.phase.Phase.TheVariants.{Written};
 
@@ -30,7 +31,7 @@ impl<M: Medium + Drop> Appender<M> {
     fn settle(&mut self) -> Result<(), Fault>
         ensures phase { MatchResult result (λ _. is_synced self.new.phase ≡ true) (λ _. is_shut self.new.phase ≡ true) }
         ensures holds { (bs : List ℕ) (n : ℕ) → is_ok result ≡ true → M.holds self.old.medium bs n → M.holds self.new.medium bs (length bs) }
-        ensures lasts { (bs : List ℕ) → M.lasts self.old.medium bs → M.lasts self.new.medium bs }
+        ensures finds { (bs : List ℕ) (n : ℕ) → is_ok result ≡ false → M.holds self.old.medium bs n → OnlyFinds (M.finds self.new.medium) bs n }
         ensures room { M.room self.old.medium ≤ M.room self.new.medium }
         ensures sure { 0 < M.room self.old.medium → is_ok result ≡ true }
     {
@@ -56,7 +57,7 @@ impl<M: Medium + Drop> Appender<M> {
 impl<M: Medium + Drop> Journal for Appender<M> {
     ghost keeps = { λ a bs n. (is_shut a.phase ≡ false) × M.Medium.holds a.medium bs n × (is_synced a.phase ≡ true → n ≡ length bs) };
 
-    ghost lasts = { λ a bs. M.Medium.lasts a.medium bs };
+    ghost finds = { λ a bs. M.Medium.finds a.medium bs };
 
     ghost room = { λ a. M.Medium.room a.medium };
 
@@ -64,7 +65,7 @@ impl<M: Medium + Drop> Journal for Appender<M> {
 
     ghost shut = { λ a. is_shut a.phase };
 
-    ghost lasting = { Prim.search rules };
+    ghost found_after = { Prim.search rules };
 
     ghost cleanly = { Prim.search rules };
 

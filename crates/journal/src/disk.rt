@@ -1,5 +1,7 @@
-// A file as a medium. No contract of the library says what a file has, so the members say nothing here: these three
-// calls are trusted to do what `Medium` says, and `find` to give the bytes that the file has.
+// A file as a medium. No contract of the library says what a file has, so the members say nothing here: `holds` holds of
+// all bytes, and `finds` of none. These three calls are trusted to do what `Medium` says, after failures and stops too, and
+// `find` to give the bytes that the file has: so that what it gives is, as `Found` says, all that was synced and some first
+// part of what was written behind it.
 ghost use Rattle.std.specs.Prelude.{ℕ, List};
 ghost use Rattle.std.proofs.Common.{rules};
 
@@ -32,11 +34,11 @@ pub fn find(rt: &HostRuntime, folder: &str, path: &str) -> io::Result<Found> {
 impl Medium for File {
     ghost holds = { λ _ _ _. Unit {0} };
 
-    ghost lasts = { λ _ _. Unit {0} };
+    ghost finds = { λ _ _. ⊥ };
 
     ghost room = { λ _. 0 };
 
-    ghost stays = { Prim.search rules };
+    ghost found_after = { Prim.search rules };
 
     fn put(&mut self, more: &[u8]) -> Result<(), Fault> {
         self.write_all(more)?;

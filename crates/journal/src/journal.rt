@@ -1,5 +1,6 @@
 // A journal: bytes that are only appended to, and synced.
-ghost use Rattle.std.specs.Prelude.{◌≡◌, ℕ, ◌+◌, ◌<◌, ◌≤◌, Bool, true, false, not, List, ◌++◌, length, take, is_ok};
+ghost use Rattle.std.specs.Prelude.{◌≡◌, ℕ, ◌+◌, ◌<◌, ◌≤◌, Bool, true, false, not, List, ◌++◌, length, is_ok};
+ghost use Rattle.journal.specs.Finding.{OnlyFinds};
 
 use crate::fault::Fault;
 
@@ -8,8 +9,8 @@ pub trait Journal {
     // It is open and has these bytes, of which the first so many are synced.
     ghost keeps: { Self → List ℕ → ℕ → Type 0 };
 
-    // Whatever happens, what is found when it is opened again begins with these.
-    ghost lasts: { Self → List ℕ → Type 0 };
+    // These bytes may be found after a stop.
+    ghost finds: { Self → List ℕ → Type 0 };
 
     // As long as it has fewer bytes than this, it does not fail; 0 where that cannot be said.
     ghost room: { Self → ℕ };
@@ -22,14 +23,14 @@ pub trait Journal {
 
     fn append(&mut self, more: &[u8]) -> Result<(), Fault>
         ensures keeps { (bs : List ℕ) (n : ℕ) → is_ok result ≡ true → keeps self.old bs n → keeps self.new (bs ++ more.now) n }
-        ensures lasts { (bs : List ℕ) → lasts self.old bs → lasts self.new bs }
+        ensures finds { (bs : List ℕ) (n : ℕ) → is_ok result ≡ false → keeps self.old bs n → OnlyFinds (finds self.new) (bs ++ more.now) n }
         ensures room { room self.old ≤ room self.new }
         ensures sure { (bs : List ℕ) (n : ℕ) → keeps self.old bs n → length bs + length more.now < room self.old → is_ok result ≡ true }
         ensures shut { (shut self.new ≡ not (is_ok result)) × ((shut self.old ≡ true → is_ok result ≡ false)) };
 
     fn sync(&mut self) -> Result<(), Fault>
         ensures keeps { (bs : List ℕ) (n : ℕ) → is_ok result ≡ true → keeps self.old bs n → keeps self.new bs (length bs) }
-        ensures lasts { (bs : List ℕ) → lasts self.old bs → lasts self.new bs }
+        ensures finds { (bs : List ℕ) (n : ℕ) → is_ok result ≡ false → keeps self.old bs n → OnlyFinds (finds self.new) bs n }
         ensures room { room self.old ≤ room self.new }
         ensures sure { (bs : List ℕ) (n : ℕ) → keeps self.old bs n → 0 < room self.old → is_ok result ≡ true }
         ensures clean { is_ok result ≡ true → clean self.new ≡ true }
@@ -39,7 +40,8 @@ pub trait Journal {
     fn is_clean(&self) -> bool
         ensures { result ≡ clean self.now };
 
-    ghost lasting: { (j : Self) (bs : List ℕ) (n : ℕ) → keeps j bs n → lasts j (take n bs) };
+    // All that is synced is found, and some first part of what was written behind it.
+    ghost found_after: { (j : Self) (bs : List ℕ) (n : ℕ) → keeps j bs n → OnlyFinds (finds j) bs n };
 
     ghost cleanly: { (j : Self) (bs : List ℕ) (n : ℕ) → clean j ≡ true → keeps j bs n → n ≡ length bs };
 }

@@ -1,6 +1,7 @@
 // A medium in memory, that crashes when it is told to.
-ghost use Rattle.std.specs.Prelude.{◌≡◌, ℕ, ◌+◌, ◌≤◌, List, [], length, take, IfOk, vec_len, vec_capacity};
+ghost use Rattle.std.specs.Prelude.{◌≡◌, ℕ, ◌+◌, ◌≤◌, List, [], take, IfOk, vec_len, vec_capacity};
 ghost use Rattle.std.proofs.Common.{rules};
+ghost use Rattle.journal.specs.Finding.{Found};
 
 use crate::fault::Fault;
 use crate::medium::Medium;
@@ -29,6 +30,7 @@ impl Memory {
     pub fn crash(&mut self, kept: usize)
         ensures held { self.new.held.items ≡ take (self.old.settled + kept) self.old.held.items }
         ensures settled { self.new.settled ≡ self.old.settled }
+        ensures found { Found self.old.held.items self.old.settled self.new.held.items }
         ensures room { vec_capacity self.new.held ≡ vec_capacity self.old.held }
     {
         self.held.truncate(self.settled.saturating_add(kept));
@@ -44,11 +46,11 @@ impl Memory {
 impl Medium for Memory {
     ghost holds = { λ m bs n. (m.held.items ≡ bs) × (m.settled ≡ n) };
 
-    ghost lasts = { λ m bs. (length bs ≤ m.settled) × (take (length bs) m.held.items ≡ bs) };
+    ghost finds = { λ m bs. Found m.held.items m.settled bs };
 
     ghost room = { λ m. vec_capacity m.held };
 
-    ghost stays = { Prim.search rules };
+    ghost found_after = { Prim.search rules };
 
     fn put(&mut self, more: &[u8]) -> Result<(), Fault> {
         self.held.extend_from_slice(more)?;

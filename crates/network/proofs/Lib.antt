@@ -30,6 +30,7 @@ pub mod Huts
 pub mod KeptOut
 pub mod Knowing
 pub mod Lacking
+pub mod Lawful
 pub mod Leading
 pub mod Leaving
 pub mod Learned
@@ -71,6 +72,7 @@ pub mod Safety
 pub mod Same
 pub mod Segments
 pub mod Sending
+mod Serving
 pub mod Settle
 pub mod Settling
 mod Sessions
@@ -79,6 +81,7 @@ mod Slipping
 pub mod Sorting
 pub mod Spread
 pub mod Stages
+pub mod Standing
 pub mod Stands
 pub mod Steps
 pub mod Taken

@@ -7,11 +7,11 @@ use Rattle.entry_log.proofs.Stamps.{vector_at}
 use Rattle.entry_log.specs.Vectors.{covers, joined_with, vector_of}
 use Rattle.journal.specs.History.{PlainRecord, Tentative, history_of, makes, state_in, synced, unless, wrote}
 use Rattle.replica.specs.Model.{entry_made, make_refusal}
-use Rattle.network.specs.Net.{Makes, Net, Syncs, after, huts, run, step, with_hut}
+use Rattle.network.specs.Net.{Event, Makes, Net, Syncs, after, huts, run, step, with_hut}
 use Rattle.network.specs.Promise.{Always}
 use Rattle.network.specs.Replicas.{entries_of}
 use Rattle.network.specs.Slips.{BehindCovered, Covered, CoveredStays, ServedStays, ServesAgain}
-use Rattle.network.proofs.Holds.{durables, histories, huts_of}
+use Rattle.network.proofs.Holds.{Holds, durables, histories, huts_of}
 use Rattle.network.proofs.Knowing.{Huts, behind, known_here, known_then, made-own, made_order}
 use Rattle.network.proofs.Marks.{◌∈◌}
 use Rattle.network.proofs.Numbers.{covers_all, covers_at, highest_more, highest_one, joined_at}
@@ -56,24 +56,27 @@ covered_stays es i slip low t later j k d covered =
     let w = known_here H j k d in
     log_older H.every H.dur i (histories n i) (H.hist i) at (H.valid i) k (covered_known H i (histories n i) at slip t k w.0 w.1 covered)
 
-pub served_stays : Always ServedStays
-served_stays es i slip low t later =
-    let n = after es in
-    let m = step (Syncs i) n in
-    let b = step_becomes (Syncs i) n (after_holds es) in
-    let r = (run_becomes later m b.holds).2 in
+-- a hut serves ever after with what durable records of its own cover
+pub served_from :
+    {every : List PlainEntry} (m : Net) → Holds every m → (i : ℕ) (rs : List PlainRecord) → Older rs (durables m i) → (slip : List ℕ)
+    → covers (vector_of (entries_of rs)) slip ≡ true → (later : List Event) → covers (vector_of (entries_of (histories (run later m) i))) slip ≡ true
+served_from m I i rs durable slip t later =
+    let r = (run_becomes later m I).2 in
     let H = huts_of (run later m) r.holds in
-    let at = lasts m b.holds later i (histories n i) (sync_durable n i low) in
-    let more = log_older H.every H.dur i (histories n i) (H.hist i) at (H.valid i) in
+    let more = log_older H.every H.dur i rs (H.hist i) (lasts m I later i rs durable) (H.valid i) in
     covers_all (vector_of (entries_of (H.hist i))) slip
     (λ h lt.
     omega (
       arith,
-      covers_at (vector_of (entries_of (histories n i))) slip t h lt,
-      vector_at (entries_of (histories n i)) h lt,
+      covers_at (vector_of (entries_of rs)) slip t h lt,
+      vector_at (entries_of rs) h lt,
       vector_at (entries_of (H.hist i)) h lt,
-      highest_more (entries_of (histories n i)) (entries_of (H.hist i)) h more,
+      highest_more (entries_of rs) (entries_of (H.hist i)) h more,
     ))
+
+pub served_stays : Always ServedStays
+served_stays es i slip low t later =
+    served_from (step (Syncs i) (after es)) (step_becomes (Syncs i) (after es) (after_holds es)).holds i (histories (after es) i) (sync_durable (after es) i low) slip t later
 
 -- so does the slip that is answered
 answered : (v slip : List ℕ) → length slip ≡ huts → covers v slip ≡ true → covers v (joined_with slip v) ≡ true

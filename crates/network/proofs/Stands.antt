@@ -49,10 +49,13 @@ module _ (es : List Event) (h : ℕ) (low : h < huts) where
   pub after_sync : after (es ++ Syncs h ∷ []) ≡ with_hut h (synced (n.hut h)) n
   after_sync = after_one es (Syncs h) ∙ among_yes h _ _ low
 
-  pub after_make : (kind : PlainKind) → after (es ++ Makes h kind ∷ Syncs h ∷ []) ≡ with_hut h (synced (makes kind (n.hut h))) n
-  after_make kind = then_synced (Makes h kind) (makes kind (n.hut h)) (after_one es (Makes h kind) ∙ among_yes h _ _ low)
+  pub after_made : (kind : PlainKind) → after (es ++ Makes h kind ∷ []) ≡ with_hut h (makes kind (n.hut h)) n
+  after_made kind = after_one es (Makes h kind) ∙ among_yes h _ _ low
 
-  after_commit : after (es ++ Commits h ∷ []) ≡ with_hut h (commits (n.hut h)) n
+  pub after_make : (kind : PlainKind) → after (es ++ Makes h kind ∷ Syncs h ∷ []) ≡ with_hut h (synced (makes kind (n.hut h))) n
+  after_make kind = then_synced (Makes h kind) (makes kind (n.hut h)) (after_made kind)
+
+  pub after_commit : after (es ++ Commits h ∷ []) ≡ with_hut h (commits (n.hut h)) n
   after_commit = after_one es (Commits h) ∙ among_yes h _ _ low
 
   pub after_committed : after (es ++ Commits h ∷ Syncs h ∷ []) ≡ with_hut h (synced (commits (n.hut h))) n

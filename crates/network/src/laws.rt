@@ -4,16 +4,16 @@ ghost use Rattle.network.specs.Cases.{SixCases, SixCasesPlayed};
 ghost use Rattle.network.specs.Days.{DayOf, Happens, DaysStay, TimedAgree, TimedIsRun};
 ghost use Rattle.network.specs.Fairness.{FairRunSettles};
 ghost use Rattle.network.specs.Harm.{NoLetterHarms};
+ghost use Rattle.network.specs.KeptOut.{KeptOutChangesNothing, OutcomesAddUp, SkippedChangesNothing};
 ghost use Rattle.network.specs.Lasting.{LastingKnown};
 ghost use Rattle.network.specs.Late.{LateLetterBrings};
-ghost use Rattle.network.specs.KeptOut.{KeptOutChangesNothing, OutcomesAddUp, SkippedChangesNothing};
-ghost use Rattle.network.specs.Mail.{Mailed};
+ghost use Rattle.network.specs.Mail.{Mailed, AllStand, HandsOnLetters, ServedAgain};
 ghost use Rattle.network.specs.Offering.{OffersWhatLacks};
 ghost use Rattle.network.specs.Promise.{Always, OneOrder, OnePrimary, PrimaryLeads, Final, HandedOnStays, SameLog, OnceEach, BehindKnown, NamedBefore, CancelledHoldsNothing, NoGaps, VectorsSay, KnownStays, KnownWhenWritten, StoodSays, GuestsKeep, SlipsSay, LettersBring, TakenWhole, LettersNeeded, CanAgree};
 ghost use Rattle.network.specs.Promised.{Promised};
 ghost use Rattle.network.specs.Refinement.{PageGives, PageKeeps, Refines, RunsAreSteps};
-ghost use Rattle.network.specs.Rounds.{RoundsBring, SyncedSettles};
 ghost use Rattle.network.specs.Refusing.{LowestRefusal};
+ghost use Rattle.network.specs.Rounds.{RoundsBring, SyncedSettles};
 ghost use Rattle.network.specs.Sessions.{MonotonicReads, MonotonicWrites, ReadYourWrites, WritesFollowReads};
 ghost use Rattle.network.specs.Shown.{CommittedOutcome, FoundStays, OutcomeStays, ShownStays, ToldMayChange};
 ghost use Rattle.network.specs.Slips.{CoveredStays, ServedStays, BehindCovered, ServesAgain};
@@ -115,11 +115,6 @@ pub fn served_stays()
     ensures { Always ServedStays }
 {}
 
-// It serves ever after with the slip that it answers.
-pub fn serves_again()
-    ensures { Always ServesAgain }
-{}
-
 // What is made where a slip is served stands behind all that the slip covers.
 pub fn behind_covered()
     ensures { Always BehindCovered }
@@ -138,51 +133,6 @@ pub fn taken_whole()
 // Each letter brings the next 1,024 items of all that is lacking.
 pub fn letters_needed()
     ensures { Always LettersNeeded }
-{}
-
-// A letter that was written for what a hut said long ago, and comes late, brings all that is in it.
-pub fn late_letter_brings()
-    ensures { Always LateLetterBrings }
-{}
-
-// Enough walks from one hut to another bring it all that the first knew, whatever other walks there are.
-pub fn walks_bring()
-    ensures { Always WalksBring }
-{}
-
-// Enough walks to the primary, commits there, and walks from it bring all huts to one log, whatever other walks there are.
-pub fn any_walks_agree()
-    ensures { Always AnyWalksAgree }
-{}
-
-// Under every fair schedule of walks and commits all huts come to one log, and stay so.
-pub fn fair_agree()
-    ensures { Always FairAgree }
-{}
-
-// Enough rounds of letters bring a hut all that another had synced, whatever else comes.
-pub fn rounds_bring()
-    ensures { Always RoundsBring }
-{}
-
-// What a hut had synced is committed for good in every hut after enough rounds and commits, whatever else comes.
-pub fn synced_settles()
-    ensures { Always SyncedSettles }
-{}
-
-// In every fair run, whatever else comes, what a hut had synced is committed for good in every hut from some time on.
-pub fn fair_run_settles()
-    ensures { Always FairRunSettles }
-{}
-
-// Hut 0 may commit, and still may when any of what is known is committed.
-pub fn zero_keeps_lead()
-    ensures { Always ZeroKeepsLead }
-{}
-
-// What was ever synced, handed on, or shown to a guest, some hut knows.
-pub fn lasting_known()
-    ensures { Always LastingKnown }
 {}
 
 // From every state handing on and committing alone can bring all replicas to one log, all of it committed.
@@ -274,59 +224,139 @@ pub fn page_gives()
 // By steps of a page nothing durable is lost in the nets that it shows: `final_stays` and `known_stays`, from the page alone.
 pub fn page_keeps()
     ensures { PageKeeps }
+{}
+
+// A letter that was written for what a hut said long ago, and comes late, brings all that is in it.
+pub fn late_letter_brings()
+    ensures { Always LateLetterBrings }
+{}
+
+// Enough walks from one hut to another bring it all that the first knew, whatever other walks there are.
+pub fn walks_bring()
+    ensures { Always WalksBring }
+{}
+
+// Enough walks to the primary, commits there, and walks from it bring all huts to one log, whatever other walks there are.
+pub fn any_walks_agree()
+    ensures { Always AnyWalksAgree }
+{}
+
+// Under every fair schedule of walks and commits all huts come to one log, and stay so.
+pub fn fair_agree()
+    ensures { Always FairAgree }
+{}
+
+// Enough rounds of letters bring a hut all that another had synced, whatever else comes.
+pub fn rounds_bring()
+    ensures { Always RoundsBring }
+{}
+
+// What a hut had synced is committed for good in every hut after enough rounds and commits, whatever else comes.
+pub fn synced_settles()
+    ensures { Always SyncedSettles }
+{}
+
+// In every fair run, whatever else comes, what a hut had synced is committed for good in every hut from some time on.
+pub fn fair_run_settles()
+    ensures { Always FairRunSettles }
+{}
+
+// Hut 0 may commit, and still may when any of what is known is committed.
+pub fn zero_keeps_lead()
+    ensures { Always ZeroKeepsLead }
+{}
+
+// What was ever synced, handed on, or shown to a guest, some hut knows.
+pub fn lasting_known()
+    ensures { Always LastingKnown }
+{}
+
 // What a hut showed as committed at a place stands there ever after.
 pub fn shown_stays()
     ensures { Always ShownStays }
+{}
 
 // A mark that a hut told to be committed is found at the same place ever after.
 pub fn found_stays()
     ensures { Always FoundStays }
+{}
 
 // What came of an entry changes only by a later one that names it.
 pub fn outcome_stays()
     ensures { OutcomeStays }
+{}
 
 // What the committed entries make of one is the same wherever as many are committed, and changes only by a committed one that names it.
 pub fn committed_outcome()
     ensures { Always CommittedOutcome }
+{}
 
 // A guest that is served finds all that it had made.
 pub fn read_your_writes()
     ensures { Always ReadYourWrites }
+{}
 
 // A guest that is served finds all that it was shown before.
 pub fn monotonic_reads()
     ensures { Always MonotonicReads }
+{}
 
 // What is made for a guest stands behind all that it was shown before.
 pub fn writes_follow_reads()
     ensures { Always WritesFollowReads }
+{}
 
 // What is made for a guest stands behind all that it had made before.
 pub fn monotonic_writes()
     ensures { Always MonotonicWrites }
+{}
 
 // A letter offers just what the other lacks, in the log's order, and has the first 1,024 of that.
 pub fn offers_what_lacks()
     ensures { OffersWhatLacks }
+{}
 
 // Without the items that are skipped a letter leaves the very same replica.
 pub fn skipped_changes_nothing()
     ensures { SkippedChangesNothing }
+{}
 
 // Nor does anything change by what is damaged or kept out.
 pub fn kept_out_changes_nothing()
     ensures { KeptOutChangesNothing }
+{}
 
 // What is told of and what is kept out are as many entries as a letter's count fields say.
 pub fn outcomes_add_up()
     ensures { OutcomesAddUp }
+{}
 
 // A call is refused by the lowest number whose condition holds.
 pub fn lowest_refusal()
     ensures { LowestRefusal }
+{}
 
 // What is told of a committed entry may change though no more is committed.
 pub fn told_may_change()
     ensures { ToldMayChange }
+{}
+
+// It serves ever after with the slip that it answers.
+pub fn serves_again()
+    ensures { Always ServesAgain }
+{}
+
+// Whatever a replica over its journal hands on is a letter that can be read.
+pub fn hands_on_letters()
+    ensures { HandsOnLetters }
+{}
+
+// Whatever the programs of all huts do, each record that is written can stand in its journal.
+pub fn all_stand()
+    ensures { AllStand }
+{}
+
+// A guest who was served at a hut is served there from then on, whatever the programs of all huts do.
+pub fn served_again()
+    ensures { ServedAgain }
 {}

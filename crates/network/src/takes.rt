@@ -1,7 +1,7 @@
 // A letter is taken: whatever its bytes are, each entry is taken or skipped in its turn.
 ghost use Rattle.std.specs.Prelude.{◌≡◌, ◌<◌, ◌≤◌, Bool, true, false, map, length, is_ok, Ok, Err, vec_len, vec_capacity, MatchResult};
 ghost use Rattle.journal.specs.History.{Kept};
-ghost use Rattle.journal.specs.Keeping.{InStep, Moves, Lasts, state_by, most_bytes};
+ghost use Rattle.journal.specs.Keeping.{InStep, Moves, Fails, state_by, most_bytes};
 ghost use Rattle.journal.specs.declared.trouble.Trouble.TheVariants.{Refused, Failed};
 ghost use Rattle.letters.specs.Items.{plain_item, left};
 ghost use Rattle.letters.specs.Letters.{read_letter};
@@ -38,7 +38,7 @@ pub(crate) fn take_item<J: Journal + Drop>(
     ensures answer { MatchResult result (λ o. plain_outcome o ≡ outcome_of (plain_item item.now) (refusal_of (plain_item item.now) (state_by keeper.old))) (λ _. J.Journal.shut keeper.new.journal ≡ true) }
     ensures kept { MatchResult result
         (λ _. Moves J.Journal.keeps keeper.old keeper.new (takes (plain_item item.now)))
-        (λ _. Lasts J.Journal.keeps J.Journal.lasts keeper.old keeper.new) }
+        (λ _. Fails J.Journal.keeps J.Journal.finds keeper.old keeper.new (takes (plain_item item.now))) }
     ensures room { J.Journal.room keeper.old.journal ≤ J.Journal.room keeper.new.journal }
     ensures sure { (k : Kept) → InStep J.Journal.keeps keeper.old k → most_bytes < J.Journal.room keeper.old.journal → is_ok result ≡ true }
 {
@@ -70,7 +70,7 @@ fn take_all<J: Journal + Drop>(
     requires capacity { length (left letter) ≤ vec_capacity outcomes.old }
     ensures kept { MatchResult result
         (λ _. Moves J.Journal.keeps keeper.old keeper.new (items_taken (left letter.entry)))
-        (λ _. Lasts J.Journal.keeps J.Journal.lasts keeper.old keeper.new) }
+        (λ _. Fails J.Journal.keeps J.Journal.finds keeper.old keeper.new (items_taken (left letter.entry))) }
     ensures answer { MatchResult result
         (λ _. ((k : Kept) → InStep J.Journal.keeps keeper.old k → map plain_outcome outcomes.new.items ≡ outcomes_of (left letter.entry) k))
         (λ _. J.Journal.shut keeper.new.journal ≡ true) }
@@ -93,7 +93,7 @@ pub fn take<J: Journal + Drop>(
 ) -> Result<(), Fault>
     ensures kept { MatchResult result
         (λ _. Moves J.Journal.keeps keeper.old keeper.new (take_bytes bytes.now))
-        (λ _. Lasts J.Journal.keeps J.Journal.lasts keeper.old keeper.new) }
+        (λ _. Fails J.Journal.keeps J.Journal.finds keeper.old keeper.new (take_bytes bytes.now)) }
     ensures answer { MatchResult result
         (λ _. ((k : Kept) → InStep J.Journal.keeps keeper.old k → Reports report.new (read_letter bytes.now) k))
         (λ _. J.Journal.shut keeper.new.journal ≡ true) }

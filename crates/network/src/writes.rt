@@ -1,7 +1,7 @@
 // A letter is written for a replica that has what a summary says.
 ghost use Rattle.std.specs.Prelude.{◌≡◌, ◌+◌, ◌<◌, ◌≤◌, Bool, true, false, is_ok, vec_len, vec_capacity, MatchResult, OnOk};
 ghost use Rattle.journal.specs.History.{Kept, synced};
-ghost use Rattle.journal.specs.Keeping.{InStep, Moves, Lasts, state_by};
+ghost use Rattle.journal.specs.Keeping.{InStep, Moves, Fails, state_by};
 ghost use Rattle.letters.specs.Buffers.{Written};
 ghost use Rattle.letters.specs.Laws.{LetterOk};
 ghost use Rattle.letters.specs.Letters.{encode_letter};
@@ -35,7 +35,7 @@ pub fn letter_for<J: Journal + Drop>(
     ensures lawful { OnOk result (LetterOk (letter_for has.now.committed has.now.vector.stamps (state_by keeper.old))) }
     ensures kept { MatchResult result
         (λ _. Moves J.Journal.keeps keeper.old keeper.new synced)
-        (λ e. elim e [ Failed f ↦ Lasts J.Journal.keeps J.Journal.lasts keeper.old keeper.new | NoRoom ↦ (vec_len out.old + 98345 ≤ vec_capacity out.old → ⊥) ]) }
+        (λ e. elim e [ Failed f ↦ Fails J.Journal.keeps J.Journal.finds keeper.old keeper.new (λ k. k) | NoRoom ↦ (vec_len out.old + 98345 ≤ vec_capacity out.old → ⊥) ]) }
     ensures room { J.Journal.room keeper.old.journal ≤ J.Journal.room keeper.new.journal }
     ensures sure { (k : Kept) → InStep J.Journal.keeps keeper.old k → 0 < J.Journal.room keeper.old.journal → vec_len out.old + 98345 ≤ vec_capacity out.old → is_ok result ≡ true }
 {

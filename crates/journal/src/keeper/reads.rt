@@ -1,7 +1,7 @@
 // What is shown and handed on is read from a replica whose journal is synced.
 ghost use Rattle.std.specs.Prelude.{◌≡◌, ℕ, ◌<◌, ◌≤◌, Bool, true, false, not, List, is_ok, MatchOption, MatchResult};
 ghost use Rattle.journal.specs.History.{Kept, synced};
-ghost use Rattle.journal.specs.Keeping.{InStep, Moves, Lasts, state_by};
+ghost use Rattle.journal.specs.Keeping.{InStep, Moves, Fails, state_by};
 
 use super::Keeper;
 use crate::fault::Fault;
@@ -20,7 +20,7 @@ impl<J: Journal + Drop> Keeper<J> {
     pub fn sync(&mut self) -> Result<(), Fault>
         ensures kept { MatchResult result
             (λ _. Moves J.keeps self.old self.new synced)
-            (λ _. Lasts J.keeps J.lasts self.old self.new) }
+            (λ _. Fails J.keeps J.finds self.old self.new (λ k. k)) }
         ensures clean { is_ok result ≡ true → J.clean self.new.journal ≡ true }
         ensures shut { (J.shut self.new.journal ≡ not (is_ok result)) × (J.shut self.old.journal ≡ true → is_ok result ≡ false) }
         ensures room { J.room self.old.journal ≤ J.room self.new.journal }

@@ -4,7 +4,7 @@ ghost use Rattle.bookings.specs.Plain.{plain};
 ghost use Rattle.bookings.specs.Refusals.{number_of};
 ghost use Rattle.replica.specs.Model.{take_tentative_refusal, take_committed_refusal};
 ghost use Rattle.journal.specs.History.{Kept, takes_tentative, takes_committed};
-ghost use Rattle.journal.specs.Keeping.{InStep, Moves, Lasts, state_by, most_bytes};
+ghost use Rattle.journal.specs.Keeping.{InStep, Moves, Fails, state_by, most_bytes};
 ghost use Rattle.journal.specs.declared.trouble.Trouble.TheVariants.{Refused, Failed};
 
 use super::Keeper;
@@ -24,7 +24,7 @@ impl<J: Journal + Drop> Keeper<J> {
             (λ _. Moves J.keeps self.old self.new (takes_tentative (plain «entry») stood.now.stamps))
             (λ e. elim e [
               | Refused w ↦ Moves J.keeps self.old self.new (λ k. k)
-              | Failed f ↦ Lasts J.keeps J.lasts self.old self.new
+              | Failed f ↦ Fails J.keeps J.finds self.old self.new (takes_tentative (plain «entry») stood.now.stamps)
             ]) }
         ensures room { J.room self.old.journal ≤ J.room self.new.journal }
         ensures sure { (k : Kept) → InStep J.keeps self.old k → most_bytes < J.room self.old.journal → IfErr result (λ e. elim e [ Refused w ↦ Unit {0} | Failed f ↦ ⊥ ]) }
@@ -44,7 +44,7 @@ impl<J: Journal + Drop> Keeper<J> {
             (λ _. Moves J.keeps self.old self.new (takes_committed place (plain «entry»)))
             (λ e. elim e [
               | Refused w ↦ Moves J.keeps self.old self.new (λ k. k)
-              | Failed f ↦ Lasts J.keeps J.lasts self.old self.new
+              | Failed f ↦ Fails J.keeps J.finds self.old self.new (takes_committed place (plain «entry»))
             ]) }
         ensures room { J.room self.old.journal ≤ J.room self.new.journal }
         ensures sure { (k : Kept) → InStep J.keeps self.old k → most_bytes < J.room self.old.journal → IfErr result (λ e. elim e [ Refused w ↦ Unit {0} | Failed f ↦ ⊥ ]) }

@@ -6,8 +6,9 @@ ghost use Rattle.bookings.specs.Refusals.{number_of};
 ghost use Rattle.letters.specs.Laws.{EntryOk};
 ghost use Rattle.entry_log.specs.Logs.{first_mark};
 ghost use Rattle.replica.specs.Model.{make_refusal, next_mark, is_primary};
+ghost use Rattle.journal.specs.Finding.{OnlyFinds};
 ghost use Rattle.journal.specs.History.{Kept, synced, makes, commits};
-ghost use Rattle.journal.specs.Keeping.{InStep, Moves, Lasts, state_by, most_bytes};
+ghost use Rattle.journal.specs.Keeping.{InStep, Moves, Fails, state_by, most_bytes};
 ghost use Rattle.journal.specs.Records.{encode_record, entry_of};
 ghost use Rattle.journal.specs.Views.{plain_record};
 ghost use Rattle.journal.specs.declared.trouble.Trouble.TheVariants.{Refused, Failed};
@@ -23,7 +24,7 @@ impl<J: Journal + Drop> Keeper<J> {
     // Writes a record behind the others.
     pub(crate) fn append(&mut self, record: &Record) -> Result<(), Fault>
         ensures keeps { (bs : List ℕ) (n : ℕ) → is_ok result ≡ true → J.keeps self.old.journal bs n → J.keeps self.new.journal (bs ++ encode_record (plain_record «record».now)) n }
-        ensures lasts { (bs : List ℕ) → J.lasts self.old.journal bs → J.lasts self.new.journal bs }
+        ensures finds { (bs : List ℕ) (n : ℕ) → is_ok result ≡ false → J.keeps self.old.journal bs n → OnlyFinds (J.finds self.new.journal) (bs ++ encode_record (plain_record «record».now)) n }
         ensures room { J.room self.old.journal ≤ J.room self.new.journal }
         ensures sure { (bs : List ℕ) (n : ℕ) → J.keeps self.old.journal bs n → length bs + length (encode_record (plain_record «record».now)) < J.room self.old.journal → is_ok result ≡ true }
         ensures shut { (J.shut self.new.journal ≡ not (is_ok result)) × (J.shut self.old.journal ≡ true → is_ok result ≡ false) }
@@ -38,7 +39,7 @@ impl<J: Journal + Drop> Keeper<J> {
     // Writes a record, and syncs it.
     fn append_synced(&mut self, record: &Record) -> Result<(), Fault>
         ensures keeps { (bs : List ℕ) (n : ℕ) → is_ok result ≡ true → J.keeps self.old.journal bs n → J.keeps self.new.journal (bs ++ encode_record (plain_record «record».now)) (length (bs ++ encode_record (plain_record «record».now))) }
-        ensures lasts { (bs : List ℕ) → J.lasts self.old.journal bs → J.lasts self.new.journal bs }
+        ensures finds { (bs : List ℕ) (n : ℕ) → is_ok result ≡ false → J.keeps self.old.journal bs n → OnlyFinds (J.finds self.new.journal) (bs ++ encode_record (plain_record «record».now)) n }
         ensures room { J.room self.old.journal ≤ J.room self.new.journal }
         ensures sure { (bs : List ℕ) (n : ℕ) → J.keeps self.old.journal bs n → length bs + length (encode_record (plain_record «record».now)) < J.room self.old.journal → is_ok result ≡ true }
         ensures shut { (J.shut self.new.journal ≡ not (is_ok result)) × (J.shut self.old.journal ≡ true → is_ok result ≡ false) }
@@ -59,7 +60,7 @@ impl<J: Journal + Drop> Keeper<J> {
             (λ _. Moves J.keeps self.old self.new (λ k. synced (makes (plain_kind kind) k)))
             (λ e. elim e [
               | Refused w ↦ Moves J.keeps self.old self.new (λ k. k)
-              | Failed f ↦ Lasts J.keeps J.lasts self.old self.new
+              | Failed f ↦ Fails J.keeps J.finds self.old self.new (makes (plain_kind kind))
             ]) }
         ensures room { J.room self.old.journal ≤ J.room self.new.journal }
         ensures sure { (k : Kept) → InStep J.keeps self.old k → most_bytes < J.room self.old.journal → IfErr result (λ e. elim e [ Refused w ↦ Unit {0} | Failed f ↦ ⊥ ]) }
@@ -81,7 +82,7 @@ impl<J: Journal + Drop> Keeper<J> {
             (λ _. Moves J.keeps self.old self.new (λ k. synced (commits k))))
             (λ e. elim e [
               | Refused w ↦ Moves J.keeps self.old self.new (λ k. k)
-              | Failed f ↦ Lasts J.keeps J.lasts self.old self.new
+              | Failed f ↦ Fails J.keeps J.finds self.old self.new commits
             ]) }
         ensures room { J.room self.old.journal ≤ J.room self.new.journal }
         ensures sure { (k : Kept) → InStep J.keeps self.old k → most_bytes < J.room self.old.journal → IfErr result (λ e. elim e [ Refused w ↦ Unit {0} | Failed f ↦ ⊥ ]) }

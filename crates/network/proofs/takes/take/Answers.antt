@@ -1,5 +1,5 @@
-use Rattle.std.proofs.Common.{map, length, sym, ap, ◌∙◌, subst, arith}
-use Rattle.journal.specs.Keeping.{InStep}
+use Rattle.std.proofs.Common.{map, length, MatchResult, sym, ap, ◌∙◌, subst, arith}
+use Rattle.journal.specs.Keeping.{InStep, Moves, Fails}
 use Rattle.letters.proofs.Few.{heard-few}
 use Rattle.letters.specs.Items.{items_of}
 use Rattle.letters.specs.Letters.{Heard}
@@ -18,6 +18,14 @@ pub returns-in_default-clause-kept : goal.returns-in_default-clause-kept
 unfolding items_taken
 returns-in_default-clause-kept g c =
     λ k in_step. subst (λ (h : Heard). InStep g.J.Journal.keeps c.args.keeper.now (items_taken (items_of h) k)) (sym c.in_default.ensures.1) in_step
+
+pub returns-clause-kept : goal.returns-clause-kept
+returns-clause-kept g c =
+    let before = c.args.keeper.now in
+    let after = c.take_all.new.keeper in
+    subst
+    (λ (h : Heard). MatchResult c.take_all.result (λ _. Moves g.J.Journal.keeps before after (items_taken (items_of h))) (λ _. Fails g.J.Journal.keeps g.J.Journal.finds before after (items_taken (items_of h))))
+    (sym c.in-Ok.ensures) c.take_all.ensures.kept
 
 pub returns-in_default-clause-answer : goal.returns-in_default-clause-answer
 returns-in_default-clause-answer g c = λ k in_step.

@@ -1,10 +1,11 @@
 use Rattle.std.proofs.Common.{◌≡◌, List, [], ◌∷◌, ◌++◌, map, length, vec_items, sym, refl, ap, ◌∙◌, subst, arith, rules}
 use Rattle.std.proofs.lemmas.List.{map-append}
+use Rattle.std.proofs.lemmas.Result.{err_from_is_err_and}
 use Rattle.journal.specs.Keeping.{InStep}
 use Rattle.letters.specs.Items.{PlainItem, left, plain_item}
 use Rattle.network.specs.Items.{refusal_of}
 use Rattle.network.specs.Taking.{plain_outcome, outcome_of}
-use Rattle.network.proofs.TakingOn.{Midway, midway_none, midway_more, midway_taken, midway_told}
+use Rattle.network.proofs.TakingOn.{Midway, midway_none, midway_more, midway_fails, midway_taken, midway_told}
 use Rattle.network.proofs.takes.take_all.Goals as goal
 
 no_items : {A : Type 0} (xs : List A) → length xs ≡ 0 → xs ≡ []
@@ -29,6 +30,13 @@ loop-item-preserved g c = (
   omega (arith, c.push_reserved.ensures.len, c.push_reserved.ensures.capacity, c.loop-item.invariant.2, ap length c.in-Some.ensures.steps),
   c.push_reserved.ensures.capacity ∙ c.loop-item.invariant.3,
 )
+
+pub returns-in_err-outcome-clause-kept : goal.returns-in_err-outcome-clause-kept
+returns-in_err-outcome-clause-kept g c =
+    let p = err_from_is_err_and c.from_residual.result c.from_residual.ensures.1 in
+    rw p.1
+    (λ k in_step found stopped. midway_fails _ _ _ _ _ (plain_item c.in-Some.item) k found (c.loop-item.invariant.0 k in_step) c.in-Some.ensures.steps
+    (λ m kept. c.in_err-outcome.ensures.kept m kept found stopped))
 
 pub returns : goal.returns
 returns g c = record {

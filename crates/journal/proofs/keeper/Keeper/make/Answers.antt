@@ -4,11 +4,12 @@ use Rattle.bookings.specs.Plain.{plain_mark, plain_kind, plain}
 use Rattle.replica.specs.Model.{State}
 use Rattle.replica.specs.Views.{state_of}
 use Rattle.replica.proofs.Taking.{log_few}
+use Rattle.journal.specs.Finding.{FoundOf}
 use Rattle.journal.specs.History.{PlainRecord, Kept, Tentative, history_of, state_in, synced, wrote, makes}
 use Rattle.journal.specs.Keeping.{Keeps, Follows, most_bytes}
 use Rattle.journal.specs.Records.{bytes_of, encode_record}
 use Rattle.journal.proofs.Failing.{failed}
-use Rattle.journal.proofs.Keeping.{keeps_wrote-synced, record_fits, durable_lasts, made_follows, makes_is}
+use Rattle.journal.proofs.Keeping.{keeps_wrote-synced, record_fits, made_follows, makes_is}
 use Rattle.journal.proofs.keeper.Keeper.make.Given.{Over}
 use Rattle.journal.proofs.keeper.Keeper.make.Goals as goal
 use Rattle.journal.proofs.keeper.Keeper.make.Goals.{After-append_synced}
@@ -44,7 +45,8 @@ pub returns-in_err-append_synced-clause-kept : goal.returns-in_err-append_synced
 returns-in_err-append_synced-clause-kept g c =
     let at = (goal.at.returns-in_err-append_synced-clause-kept g c).After-append_synced in
     failed c.from_residual-in_err-append_synced.result c.in_err-append_synced.field-0.0 _ _ c.from_residual-in_err-append_synced.ensures.1
-    (λ k in_step. c.append_synced.ensures.lasts _ (durable_lasts _ (g.J.Journal.lasts c.args.self.now.journal) (was g at) k in_step (g.met.J.Journal.lasting c.args.self.now.journal)))
+    (λ k in_step found stopped. subst (λ (x : Kept). FoundOf x found) (sym (is_wrote g at k in_step.state))
+    (c.in_err-append_synced.ensures.finds (bytes_of (history_of k)) _ refl in_step.bytes found stopped))
 
 pub returns-in_err-append_synced-clause-sure : goal.returns-in_err-append_synced-clause-sure
 returns-in_err-append_synced-clause-sure g c = λ k in_step roomy.

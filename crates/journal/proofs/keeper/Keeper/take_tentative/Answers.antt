@@ -4,11 +4,12 @@ use Rattle.bookings.specs.Plain.{plain}
 use Rattle.replica.specs.Model.{State}
 use Rattle.replica.specs.Views.{state_of}
 use Rattle.replica.proofs.Taking.{log_few}
+use Rattle.journal.specs.Finding.{FoundOf}
 use Rattle.journal.specs.History.{PlainRecord, Kept, Tentative, takes_tentative, history_of, state_in, wrote}
 use Rattle.journal.specs.Keeping.{Keeps, Follows, most_bytes}
 use Rattle.journal.specs.Records.{bytes_of, encode_record}
 use Rattle.journal.proofs.Failing.{failed}
-use Rattle.journal.proofs.Keeping.{keeps_wrote, takes_tentative_is, record_fits, durable_lasts}
+use Rattle.journal.proofs.Keeping.{keeps_wrote, takes_tentative_is, record_fits}
 use Rattle.journal.proofs.Standing.{taken-stands}
 use Rattle.journal.proofs.keeper.Keeper.take_tentative.Given.{Over}
 use Rattle.journal.proofs.keeper.Keeper.take_tentative.Goals as goal
@@ -45,7 +46,8 @@ pub returns-in_err-append-clause-kept : goal.returns-in_err-append-clause-kept
 returns-in_err-append-clause-kept g c =
     let at = (goal.at.returns-in_err-append-clause-kept g c).After-append in
     failed c.from_residual-in_err-append.result c.in_err-append.field-0.0 _ _ c.from_residual-in_err-append.ensures.1
-    (λ k in_step. c.append.ensures.lasts _ (durable_lasts _ (g.J.Journal.lasts c.args.self.now.journal) (was g at) k in_step (g.met.J.Journal.lasting c.args.self.now.journal)))
+    (λ k in_step found stopped. subst (λ (x : Kept). FoundOf x found) (sym (is_wrote g at k in_step.state))
+    (c.in_err-append.ensures.finds (bytes_of (history_of k)) _ refl in_step.bytes found stopped))
 
 pub returns-in_err-append-clause-sure : goal.returns-in_err-append-clause-sure
 returns-in_err-append-clause-sure g c = λ k in_step roomy.
