@@ -11,7 +11,6 @@ use desk::reply::Reply;
 use desk::says::say;
 use desk::station::Station;
 use journal::disk::find;
-use journal::keeper::Keeper;
 use std::fs::{File, OpenOptions, TryLockError};
 use std::io::Write;
 
@@ -37,9 +36,9 @@ pub fn serve(rt: &HostRuntime, out: &mut impl Write, hut: u8) -> anyhow::Result<
     let heap = rt.alloc();
     let _held = hold(rt)?;
     let found = find(rt, FOLDER, PATH).context("the file `line` cannot be read")?;
-    let opening = Keeper::open(heap, hut, found.file, found.bytes.as_slice())?;
+    let opening = Station::open(heap, hut, found.file, found.bytes.as_slice())?;
     let cut = opening.cut;
-    let mut station = Station::new(heap, opening.keeper)?;
+    let mut station = opening.station;
     if let Some(replica) = station.shown() {
         writeln!(out, "{}", opened(replica, cut))?;
     }

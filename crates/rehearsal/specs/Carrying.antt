@@ -2,6 +2,7 @@
 use Rattle.std.specs.Prelude.{◌≡◌, ℕ, ◌-◌, ◌<◌, ◌≤◌, ◌⊎◌, List, [], ◌∷◌, ◌++◌, length, get_or, vec_items, vec_len, MatchResult}
 use Rattle.bookings.specs.Refusals.{number_of}
 use Rattle.bookings.specs.declared.refusal.Refusal.{Refusal}
+use Rattle.journal.specs.Finding.{Found}
 use Rattle.journal.specs.History.{Kept}
 use Rattle.network.specs.Acts.{Told, Denied, cut_of}
 use Rattle.network.specs.Casts.{Absent}
@@ -76,3 +77,7 @@ heard_at qs i bs kept = put (hut_at qs i) (take_bytes bs (kept (hut_at qs i))) k
 -- the replica at a place keeps that, and each other something
 abbrev pub KeptAt : List Hut → (place : ℕ) → Kept → Type 0
 KeptAt qs i k = (kept : ℕ → Kept) × Follows qs kept × (kept (hut_at qs i) ≡ k)
+
+-- a crash may leave these bytes of the journal of the replica at a place
+abbrev pub FoundAt : List Hut → (place : ℕ) → List ℕ → Type 0
+FoundAt qs i found = (q : Hut) × Found (vec_items (get_or qs i q).journal.medium.held) (get_or qs i q).journal.medium.settled found

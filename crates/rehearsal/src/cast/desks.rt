@@ -1,6 +1,7 @@
 // The hut that is meant, as the lines of a hut know it.
 ghost use Rattle.network.specs.Stages.{Unsynced, huts_of, state_at};
-ghost use Rattle.rehearsal.specs.Carrying.{KeptAt};
+ghost use Rattle.rehearsal.specs.Telling.{cast_found, cast_told};
+ghost use Rattle.rehearsal.specs.Carrying.{FoundAt, KeptAt};
 
 use super::Cast;
 use bookings::entry::{Kind, Mark};
@@ -17,6 +18,8 @@ impl Desk for Cast {
     ghost state = { λ c. state_at (huts_of c.rehearsal.stage) c.current };
 
     ghost keeps = { λ c k. KeptAt (huts_of c.rehearsal.stage) c.current k };
+
+    ghost finds = { λ c bs. FoundAt (huts_of c.rehearsal.stage) c.current bs };
 
     ghost unsynced = { λ c. Unsynced (huts_of c.rehearsal.stage) c.current };
 
@@ -69,4 +72,8 @@ impl Desk for Cast {
     fn rejected(&self) -> Option<usize> {
         Cast::rejected(self)
     }
+
+    ghost told_by = { cast_told };
+
+    ghost finds_only = { cast_found };
 }
