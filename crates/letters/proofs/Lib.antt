@@ -5,6 +5,7 @@ mod Counts
 pub mod Exact
 pub mod Few
 mod HeardWhole
+mod Judged
 pub mod Lawful
 pub mod Lettering
 mod Looking
@@ -12,6 +13,7 @@ pub mod OneEntry
 pub mod OneForm
 mod OneLetter
 pub mod Puts
+mod RangeTests
 pub mod Round
 mod RowCodes
 mod Rowing

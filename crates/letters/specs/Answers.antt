@@ -1,5 +1,7 @@
 -- What reading a list of bytes answers.
-use Rattle.std.specs.Prelude.{ℕ, zero, suc, List, [], ◌∷◌}
+use Rattle.std.specs.Prelude.{ℕ, zero, suc, Bool, List, [], ◌∷◌}
+use Rattle.std.specs.declared.option.Option.{Option}
+use Rattle.std.specs.Bool.{then_some}
 use Rattle.letters.specs.declared.wrong.Wrong.{Wrong}
 use Rattle.letters.specs.declared.wrong.Wrong.TheVariants.{Short, Out}
 
@@ -18,6 +20,12 @@ after out f = out
 abbrev pub wrong : {A : Type 0} → Wrong → Answer A
 wrong Short = short
 wrong Out = out
+
+-- a value that was read is judged: nothing where the test fails
+abbrev pub judged : {A : Type 0} → (A → Bool) → Answer A → Answer (Option A)
+judged test (got a rest) = got (then_some (test a) a) rest
+judged test short = short
+judged test out = out
 
 -- n times the same
 abbrev pub read_times : {A : Type 0} → (List ℕ → Answer A) → ℕ → List ℕ → Answer (List A)

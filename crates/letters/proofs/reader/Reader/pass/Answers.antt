@@ -3,4 +3,4 @@ use Rattle.letters.proofs.Rowing.{ends_more}
 use Rattle.letters.proofs.reader.Reader.pass.Goals as goal
 
 pub loop-i-preserved : goal.loop-i-preserved
-loop-i-preserved g c = ends_more g.V.Coded.reading c.args.count c.loop-i.i _ _ _ _ (omega arith) c.loop-i.invariant c.in-Ok.ensures
+loop-i-preserved g c = ends_more g.V.Decoded.reading c.args.count c.loop-i.i _ _ _ _ (omega arith) c.loop-i.invariant c.in-Ok.ensures

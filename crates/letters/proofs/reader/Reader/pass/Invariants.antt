@@ -2,4 +2,4 @@ use Rattle.letters.proofs.Rowing.{Passed}
 use Rattle.letters.proofs.reader.Reader.pass.Given as goal
 
 abbrev pub invariant-loop-i : goal.invariant-loop-i
-invariant-loop-i g l = Passed g.V.Coded.reading l.count l.i l.initial.self.rest.now l.self.rest.now
+invariant-loop-i g l = Passed g.V.Decoded.reading l.count l.i l.initial.self.rest.now l.self.rest.now
