@@ -1,10 +1,10 @@
 -- What holds of the formats.
 use Rattle.std.specs.Prelude.{◌≡◌, ℕ, ◌+◌, ◌-◌, ◌^◌, ◌<◌, ◌≤◌, List, ◌∷◌, ◌++◌, length, take, drop, ◌≢◌}
-use Rattle.bookings.specs.Plain.{PlainKind, book, cancel, change, supply, PlainEntry}
+use Rattle.bookings.specs.Plain.{PlainChoice, PlainKind, book, cancel, change, supply, PlainEntry}
 use Rattle.bookings.specs.Ranges.{Each, InRange}
 use Rattle.entry_log.specs.Waits.{PlainWaiting}
 use Rattle.digest.specs.Sha256.{digest_of}
-use Rattle.letters.specs.Answers.{got, short}
+use Rattle.letters.specs.Answers.{got, short, out}
 use Rattle.letters.specs.Format.{encode, reads}
 use Rattle.letters.specs.Letters.{PlainLetter, encode_letter, heard, damaged, read_letter}
 
@@ -21,6 +21,22 @@ pub record EntryOk (e : PlainEntry) : Type 0 where
   pub stamp_fits : e.mark.stamp < 2 ^ 32
   pub kind_fits : KindFits e.kind
 
+-- nights are numbers of two bytes; there are four choices at most
+abbrev pub NightFits : PlainChoice → Type 0
+NightFits c = c.stay.night < 65536
+
+abbrev pub NightsFit : PlainKind → Type 0
+NightsFit (book guest cs) = (length cs ≤ 4) × Each NightFits cs
+NightsFit (cancel m) = Unit {0}
+NightsFit (change m cs) = (length cs ≤ 4) × Each NightFits cs
+NightsFit (supply c) = NightFits c
+
+-- an entry that can be written as bytes, in range or not
+pub record Encodable (e : PlainEntry) : Type 0 where
+  pub stamp_fits : e.mark.stamp < 2 ^ 32
+  pub kind_fits : KindFits e.kind
+  pub nights_fit : NightsFit e.kind
+
 abbrev pub Bytes : List ℕ → Type 0
 Bytes bs = Each (λ b. b < 256) bs
 
@@ -33,9 +49,13 @@ abbrev pub EntryPrefixFree : Type 0
 EntryPrefixFree =
     (e f : PlainEntry) (r s : List ℕ) → EntryOk e → EntryOk f → encode e ++ r ≡ encode f ++ s → (e ≡ f) × (r ≡ s)
 
--- an entry that is cut short is found short
+-- LAW: an entry that is cut short is found short, also where it is out of range: all its bytes are read before its ranges are judged
 abbrev pub EntryCutShort : Type 0
-EntryCutShort = (e : PlainEntry) (k : ℕ) → EntryOk e → k < length (encode e) → reads (take k (encode e)) ≡ short
+EntryCutShort = (e : PlainEntry) (k : ℕ) → Encodable e → k < length (encode e) → reads (take k (encode e)) ≡ short
+
+-- LAW: an entry that is out of range is found so where all its bytes are there, whatever follows
+abbrev pub EntryOutOfRange : Type 0
+EntryOutOfRange = (e : PlainEntry) (rest : List ℕ) → Encodable e → (InRange e → ⊥) → reads (encode e ++ rest) ≡ out
 
 -- what is read is in range, and the bytes before the rest are its one encoding
 abbrev pub EntryOneForm : Type 0

@@ -1,5 +1,5 @@
 // The laws of the formats: each stands on the contract of a function.
-ghost use Rattle.letters.specs.Laws.{EntryRoundTrip, EntryPrefixFree, EntryCutShort, EntryOneForm, EntrySmall, LetterRoundTrip, LetterInjective, LetterOneForm, UnsignedDamaged, CutDamaged, LongerDamaged};
+ghost use Rattle.letters.specs.Laws.{EntryRoundTrip, EntryPrefixFree, EntryCutShort, EntryOutOfRange, EntryOneForm, EntrySmall, LetterRoundTrip, LetterInjective, LetterOneForm, UnsignedDamaged, CutDamaged, LongerDamaged};
 
 // Reading an entry that was written gives it back.
 pub fn entry_round_trip()
@@ -11,9 +11,14 @@ pub fn entry_prefix_free()
     ensures { EntryPrefixFree }
 {}
 
-// An entry that is cut short is found short.
+// An entry that is cut short is found short, also where it is out of range.
 pub fn entry_cut_short()
     ensures { EntryCutShort }
+{}
+
+// An entry that is out of range is found so where all its bytes are there.
+pub fn entry_out_of_range()
+    ensures { EntryOutOfRange }
 {}
 
 // What is read as an entry is in range, and its bytes are the one form that it has.
