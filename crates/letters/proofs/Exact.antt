@@ -11,7 +11,7 @@ use Rattle.letters.specs.Laws.{Bytes}
 abbrev pub Exact : {A : Type 0} → List ℕ → (List ℕ → Answer A) → (A → List ℕ) → (A → Type 0) → Type 0
 Exact {A} ps read enc P = (bs : List ℕ) (a : A) (r : List ℕ) → Bytes bs → read bs ≡ got a r → (ps ++ bs ≡ enc a ++ r) × (P a × Bytes r)
 
-after-got :
+pub after-got :
     {A B : Type 0} (x : Answer A) (f : A → List ℕ → Answer B) (b : B) (s : List ℕ) → after x f ≡ got b s
     → (a : A) × ((r : List ℕ) × ((x ≡ got a r) × (f a r ≡ got b s)))
 after-got (got a r) f b s h = (a, (r, (refl, h)))

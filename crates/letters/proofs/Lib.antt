@@ -12,10 +12,12 @@ mod Looking
 pub mod OneEntry
 pub mod OneForm
 mod OneLetter
+mod Parts
 pub mod Puts
 mod RangeTests
 pub mod Round
 mod RowCodes
+mod RowParts
 mod Rowing
 mod Signing
 pub mod Sizes

@@ -1,6 +1,6 @@
 // Values with a form in bytes: they are written and read one behind the other.
-ghost use Rattle.std.specs.Prelude.{◌≡◌, ℕ, ◌≤◌, List, length, MatchResult};
-ghost use Rattle.letters.specs.Answers.{Answer, got, wrong};
+ghost use Rattle.std.specs.Prelude.{◌≡◌, ℕ, ◌≤◌, List, length, MatchResult, IfOk};
+ghost use Rattle.letters.specs.Answers.{Answer, got, wrong, OwnPart};
 ghost use Rattle.letters.specs.Buffers.{Room, Written};
 
 use crate::reader::Reader;
@@ -40,7 +40,8 @@ pub(crate) trait Decoded: Copy {
 
     // The next value.
     fn read(reader: &mut Reader<'_>) -> Result<Self, Wrong>
-        ensures { MatchResult result
+        ensures value { MatchResult result
             (λ v. reading reader.old.rest.now ≡ got (plain v) reader.new.rest.now)
-            (λ e. reading reader.old.rest.now ≡ wrong e) };
+            (λ e. reading reader.old.rest.now ≡ wrong e) }
+        ensures part { IfOk result (λ v. OwnPart reading (plain v) reader.old.rest.now reader.new.rest.now) };
 }

@@ -1,10 +1,10 @@
 // Many values, one behind the other.
-ghost use Rattle.std.specs.Prelude.{◌≡◌, if◌then◌else◌, map, length, MatchResult, nat_eq};
+ghost use Rattle.std.specs.Prelude.{◌≡◌, ◌-◌, ◌≤◌, if◌then◌else◌, map, length, MatchResult, IfOk, nat_eq};
 ghost use Rattle.bookings.specs.Refusals.{number_of};
 ghost use Rattle.entry_log.specs.Waits.{plain_waiting};
 ghost use Rattle.letters.specs.Answers.{got, wrong, read_times};
 ghost use Rattle.letters.specs.Letters.{read_stamps, read_waiting};
-ghost use Rattle.letters.specs.Rows.{read_row, end_of, through, halted, cut};
+ghost use Rattle.letters.specs.Rows.{OwnRow, read_row, end_of, through, halted, cut};
 
 use super::Reader;
 use crate::coded::Decoded;
@@ -51,16 +51,22 @@ impl<'a> Reader<'a> {
 
     // Goes past so many values, or up to the first that is out of range; says how many are kept out.
     pub(crate) fn pass<V: Decoded>(&mut self, count: u16) -> Result<u16, Refusal>
-        ensures { MatchResult result
+        ensures ends { MatchResult result
             (λ out. end_of (read_row V.reading count self.old.rest.now) ≡ (if nat_eq out 0 then through self.new.rest.now else halted out))
             (λ e. (number_of e ≡ 1) × (end_of (read_row V.reading count self.old.rest.now) ≡ cut)) }
+        ensures passed { IfOk result (λ out. OwnRow V.reading (count - out) self.old.rest.now self.new.rest.now) }
+        ensures few { IfOk result (λ out. out ≤ count) }
     {
         // Counted, since how many are left is the answer where one is out of range.
         for i in 0..count {
+            let from = self.rest;
             match V::read(self) {
                 Ok(_) => {}
                 Err(Wrong::Short) => return Err(Refusal::Damaged),
-                Err(Wrong::Out) => return Ok(count - i),
+                Err(Wrong::Out) => {
+                    self.rest = from;
+                    return Ok(count - i);
+                }
             }
         }
         Ok(0)
