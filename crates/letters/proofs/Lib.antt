@@ -22,4 +22,5 @@ mod Rowing
 mod Signing
 pub mod Sizes
 mod Times
+mod Torn
 pub mod Trip

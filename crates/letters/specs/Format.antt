@@ -71,7 +71,7 @@ choice_at bs = record { stay = record { hut = slice_index bs 0; night = number_o
 abbrev pub read_choice : List ℕ → Answer PlainChoice
 read_choice bs = having 5 bs (got (choice_at bs) (drop 5 bs))
 
--- how many, and these; more than four are out of range
+-- how many, and these; more than four are out of range as soon as the count is read
 abbrev pub read_choices : List ℕ → Answer (List PlainChoice)
 read_choices bs = after (read_one bs) (λ n r. unless (nat_lt 4 n) (read_times read_choice n r))
 
@@ -87,7 +87,7 @@ read_change bs = after (read_mark bs) (λ m r. after (read_choices r) (λ cs s. 
 abbrev pub read_beds : List ℕ → Answer PlainKind
 read_beds bs = after (read_choice bs) (λ c r. got (supply c) r)
 
--- a kind that is not known is out of range
+-- a kind that is not known is out of range as soon as it is read
 abbrev pub read_kind : List ℕ → Answer PlainKind
 read_kind bs =
     after (read_one bs)
@@ -97,10 +97,10 @@ read_kind bs =
     (cond (n == 3) (read_change r)
     (cond (n == 4) (read_beds r) out))))
 
--- the numbers of an entry, whatever their ranges
+-- all bytes of an entry as numbers, by its kind and its count of choices; no range is judged
 abbrev pub read_numbers : List ℕ → Answer PlainEntry
 read_numbers bs = after (read_mark bs) (λ m r. after (read_kind r) (λ k s. got (record { mark = m; kind = k }) s))
 
--- all bytes of an entry are read, and then its ranges are judged
+-- an entry's bytes are all read, and then its ranges are judged
 abbrev pub reads : List ℕ → Answer PlainEntry
 reads bs = after (read_numbers bs) (λ e r. if in_range e then got e r else out)

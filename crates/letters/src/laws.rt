@@ -1,5 +1,5 @@
 // The laws of the formats: each stands on the contract of a function.
-ghost use Rattle.letters.specs.Laws.{EntryRoundTrip, EntryPrefixFree, EntryCutShort, EntryOutOfRange, EntryOneForm, EntrySmall, LetterRoundTrip, LetterInjective, LetterOneForm, UnsignedDamaged, CutDamaged, LongerDamaged};
+ghost use Rattle.letters.specs.Laws.{EntryRoundTrip, EntryPrefixFree, EntryCutShort, EntryOutOfRange, EntryOneForm, EntrySmall, LetterRoundTrip, LetterInjective, LetterOneForm, UnsignedDamaged, CutDamaged, LongerDamaged, CommittedCutDamaged, TentativeCutDamaged};
 
 // Reading an entry that was written gives it back.
 pub fn entry_round_trip()
@@ -59,4 +59,14 @@ pub fn cut_damaged()
 // A letter that was written is damaged with anything behind it.
 pub fn longer_damaged()
     ensures { LongerDamaged }
+{}
+
+// A letter whose bytes end within a committed entry is damaged, whatever the numbers of that entry.
+pub fn committed_cut_damaged()
+    ensures { CommittedCutDamaged }
+{}
+
+// So is one whose bytes end within a tentative entry.
+pub fn tentative_cut_damaged()
+    ensures { TentativeCutDamaged }
 {}
