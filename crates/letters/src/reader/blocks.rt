@@ -1,4 +1,4 @@
-// Numbers, marks and nights: each is a few bytes. Of what has a range there is nothing where it is out of it: the bytes are passed all the same.
+// Numbers, marks and nights: each is a few bytes. One that is out of range is `None`, and its bytes are passed all the same.
 ghost use Rattle.std.specs.Prelude.{◌≡◌, ◌+◌, ◌<◌, ◌≤◌, length, drop, slice_index, MatchResult, IfOk, EachIndex};
 ghost use Rattle.std.specs.Bool.{then_some};
 ghost use Rattle.std.specs.Option.{option_map};
