@@ -81,61 +81,59 @@ impl<'a> Reader<'a> {
         Ok(*first)
     }
 
-    fn mark(&mut self) -> Result<Mark, Wrong> {
+    fn mark(&mut self) -> Result<Option<Mark>, Wrong> {
         let [a, b, c, d, hut] = self.take()?;
         let stamp = u32::from_be_bytes([a, b, c, d]);
-        if stamp < 1 || hut >= 16 {
-            return Err(Wrong::Out);
-        }
-        Ok(Mark { stamp, hut })
+        Ok((stamp >= 1 && hut < 16).then_some(Mark { stamp, hut }))
     }
 
-    fn supply(&mut self) -> Result<Choice, Wrong> {
+    fn supply(&mut self) -> Result<Option<Choice>, Wrong> {
         let [hut, high, low, nights, beds] = self.take()?;
         let night = u16::from_be_bytes([high, low]);
-        if hut >= 16 || nights < 1 || nights > 14 || night as u32 + nights as u32 > 366 {
-            return Err(Wrong::Out);
-        }
-        Ok(Choice { hut, night, nights, beds })
+        let fits = hut < 16 && nights >= 1 && nights <= 14 && night as u32 + nights as u32 <= 366;
+        Ok(fits.then_some(Choice { hut, night, nights, beds }))
     }
 
-    fn choice(&mut self) -> Result<Choice, Wrong> {
-        let choice = self.supply()?;
-        if choice.beds < 1 || choice.beds > 20 {
-            return Err(Wrong::Out);
-        }
-        Ok(choice)
+    fn choice(&mut self) -> Result<Option<Choice>, Wrong> {
+        Ok(self.supply()?.filter(|choice| choice.beds >= 1 && choice.beds <= 20))
     }
 
-    fn choices(&mut self) -> Result<Choices, Wrong> {
+    fn choices(&mut self) -> Result<Option<Choices>, Wrong> {
         let [count] = self.take()?;
         if count > 4 {
             return Err(Wrong::Out);
         }
         let least = Choice { hut: 0, night: 0, nights: 1, beds: 1 };
         let mut all = [least; 4];
+        let mut fits = true;
         for place in all.iter_mut().take(count as usize) {
-            *place = self.choice()?;
+            match self.choice()? {
+                Some(choice) => *place = choice,
+                None => fits = false,
+            }
         }
-        Ok(Choices { count, all })
+        Ok(fits.then_some(Choices { count, all }))
     }
 
+    /// All bytes of an entry are read before its ranges are judged.
     fn entry(&mut self) -> Result<Entry, Wrong> {
         let mark = self.mark()?;
         let [kind] = self.take()?;
         let kind = match kind {
             1 => {
                 let guest = u32::from_be_bytes(self.take()?);
-                Kind::Book { guest, choices: self.choices()? }
+                self.choices()?.map(|choices| Kind::Book { guest, choices })
             }
-            2 => Kind::Cancel { mark: self.mark()? },
+            2 => self.mark()?.map(|mark| Kind::Cancel { mark }),
             3 => {
                 let mark = self.mark()?;
-                Kind::Change { mark, choices: self.choices()? }
+                let choices = self.choices()?;
+                mark.zip(choices).map(|(mark, choices)| Kind::Change { mark, choices })
             }
-            4 => Kind::Beds { supply: self.supply()? },
+            4 => self.supply()?.map(|supply| Kind::Beds { supply }),
             _ => return Err(Wrong::Out),
         };
+        let (mark, kind) = mark.zip(kind).ok_or(Wrong::Out)?;
         Ok(Entry { mark, kind })
     }
 

@@ -1,6 +1,6 @@
 """Scripts that chance would not find: every byte of a letter, what each command syncs, and the limits."""
 
-from comparing.forging import HIGHEST, beds, book, cancel, change, letter, signed
+from comparing.forging import HIGHEST, beds, book, cancel, change, letter, number, signed
 
 NONE = [0] * 16
 ENDING = ["have", "show", "stop 1 0", "have", "show", "line"]
@@ -28,6 +28,29 @@ def every_byte():
             letters += [signed(changed), changed + right[-32:]]
     letters += [right + b"\0", signed(content + b"\0"), right[:-1], right[1:], right + right]
     return ["huts 1"] + [line for each in letters for line in ("take " + each.hex(), "stop 1 0")]
+
+
+def out_of_range():
+    """Entries with a number out of range, or an unknown kind, cut behind each of their bytes, with a right digest."""
+    stay, far, none = (5, 9, 2, 3), (16, 9, 2, 3), (5, 9, 0, 3)
+    wrong = [book(0, 2, 7, [stay]), book(1, 16, 7, [stay, stay]), cancel(9, 16, (1, 2)), beds(9, 16, stay)]
+    wrong += [book(9, 2, 7, [far, stay]), book(9, 2, 7, [stay, stay, stay, (5, 9, 2, 21)]), book(9, 2, 7, [(5, 9, 2, 0)])]
+    wrong += [cancel(9, 2, (0, 2)), cancel(9, 2, (1, 16)), change(9, 2, (1, 16), [stay]), change(9, 2, (1, 2), [none, stay])]
+    wrong += [beds(9, 2, far), beds(9, 2, none), beds(9, 2, (5, 365, 2, 9)), book(9, 2, 7)[:5] + b"\5" + bytes(9)]
+    wrong += [book(9, 16, 7)[:10] + b"\5" + bytes(9), change(9, 2, (1, 16))[:11] + b"\5" + bytes(9)]
+    right = cancel(2, 3, (1, 2))
+    lines = ["huts 1", "take " + signed(bytes.fromhex("42 0000 00000000 0001 00000001 10")).hex()]
+    for entry in wrong:
+        for end in range(len(entry) + 1):
+            part = entry[:end]
+            lines += ["take " + signed(b"\x42" + content).hex() for content in (
+                number(2, 2) + number(0, 4) + right + part,
+                number(1, 2) + number(0, 4) + right + number(1, 2) + part,
+                number(0, 2) + number(0, 4) + number(2, 2) + right + bytes(64) + part,
+            )]
+        lines += [take(right, entry, right), take(entry, tentative=[(right, NONE)]), take(right, tentative=[(entry, NONE), (right, NONE)])]
+        lines += ["take " + letter([right], counts=(None, 1), behind=entry + bytes(63)).hex(), "stop 1 0"]
+    return lines + ENDING
 
 
 def every_stop():
@@ -138,6 +161,7 @@ def full_log(tentative):
 
 def special_scripts():
     yield "every byte of a letter", every_byte()
+    yield "entries out of range, cut short", out_of_range()
     yield "a stop at every byte", every_stop()
     yield "what hut 0 syncs", syncs(0)
     yield "what hut 1 syncs", syncs(1)

@@ -60,73 +60,82 @@ impl From<Refused> for Unread {
     }
 }
 
-/// Reads bytes from their front. A group of bytes is there as a whole, or the bytes are cut short.
+/// A value, or that a number of it is out of range: its bytes are read in either case.
+type Judged<T> = Result<T, Refused>;
+
+/// Reads bytes from their front.
 pub struct Reader<'a> {
     pub rest: &'a [u8],
 }
 
 impl Reader<'_> {
-    fn group<const N: usize>(&mut self) -> Result<[u8; N], Unread> {
-        let (group, rest) = self.rest.split_first_chunk::<N>().ok_or(Unread::Damaged)?;
+    fn next<const N: usize>(&mut self) -> Result<[u8; N], Unread> {
+        let (next, rest) = self.rest.split_first_chunk::<N>().ok_or(Unread::Damaged)?;
         self.rest = rest;
-        Ok(*group)
+        Ok(*next)
     }
 
     pub fn byte(&mut self) -> Result<u8, Unread> {
-        Ok(self.group::<1>()?[0])
+        Ok(self.next::<1>()?[0])
     }
 
     pub fn two(&mut self) -> Result<u16, Unread> {
-        Ok(u16::from_be_bytes(self.group()?))
+        Ok(u16::from_be_bytes(self.next()?))
     }
 
     pub fn four(&mut self) -> Result<u32, Unread> {
-        Ok(u32::from_be_bytes(self.group()?))
+        Ok(u32::from_be_bytes(self.next()?))
     }
 
-    fn mark(&mut self) -> Result<Mark, Unread> {
-        let [a, b, c, d, hut] = self.group()?;
+    fn mark(&mut self) -> Result<Judged<Mark>, Unread> {
+        let [a, b, c, d, hut] = self.next()?;
         let stamp = u32::from_be_bytes([a, b, c, d]);
-        Ok(entries::mark(stamp.into(), hut.into())?)
+        Ok(entries::mark(stamp.into(), hut.into()))
     }
 
     fn stay_numbers(&mut self) -> Result<[u64; 4], Unread> {
-        let [hut, high, low, nights, beds] = self.group()?;
+        let [hut, high, low, nights, beds] = self.next()?;
         let first = u16::from_be_bytes([high, low]);
         Ok([hut.into(), first.into(), nights.into(), beds.into()])
     }
 
-    fn choices(&mut self) -> Result<Vec<Stay>, Unread> {
+    fn choices(&mut self) -> Result<Judged<Vec<Stay>>, Unread> {
         let count = self.byte()?;
         if count > 4 {
             return Err(Unread::OutOfRange);
         }
         let mut choices = Vec::new();
         for _ in 0..count {
-            choices.push(entries::choice(self.stay_numbers()?)?);
+            choices.push(self.stay_numbers()?);
         }
-        Ok(choices)
+        Ok(choices.into_iter().map(entries::choice).collect())
     }
 
+    fn kind(&mut self) -> Result<Judged<Kind>, Unread> {
+        Ok(match self.byte()? {
+            1 => {
+                let guest = self.four()?;
+                let choices = self.choices()?;
+                choices.map(|choices| Kind::Book { guest, choices })
+            }
+            2 => self.mark()?.map(|named| Kind::Cancel { named }),
+            3 => {
+                let named = self.mark()?;
+                let choices = self.choices()?;
+                named.and_then(|named| choices.map(|choices| Kind::Change { named, choices }))
+            }
+            4 => entries::supply(self.stay_numbers()?).map(|stay| Kind::Beds { stay }),
+            _ => return Err(Unread::OutOfRange),
+        })
+    }
+
+    /// All bytes of an entry are read before one of its ranges is judged.
     pub fn entry(&mut self) -> Result<Entry, Unread> {
         let mark = self.mark()?;
-        let kind = match self.byte()? {
-            1 => Kind::Book {
-                guest: self.four()?,
-                choices: self.choices()?,
-            },
-            2 => Kind::Cancel {
-                named: self.mark()?,
-            },
-            3 => Kind::Change {
-                named: self.mark()?,
-                choices: self.choices()?,
-            },
-            4 => Kind::Beds {
-                stay: entries::supply(self.stay_numbers()?)?,
-            },
-            _ => return Err(Unread::OutOfRange),
-        };
-        Ok(Entry { mark, kind })
+        let kind = self.kind()?;
+        Ok(Entry {
+            mark: mark?,
+            kind: kind?,
+        })
     }
 }

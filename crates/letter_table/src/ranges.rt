@@ -54,14 +54,28 @@ impl<'a, P: Print> Table<'a, P> {
         self.with("beds for 15 nights", &BEDS, 9, 15)
     }
 
-    // The entry of a hut that there is not, of three tentative ones.
-    fn tentative(&self) -> anyhow::Result<()> {
+    // A row for the second of three tentative entries, with nothing behind it.
+    fn second(&self, name: &str, entry: &[u8]) -> anyhow::Result<()> {
         let mut bytes = Vec::with_capacity(self.heap, 128)?;
         bytes.extend_from_slice(&BOOKING)?;
         bytes.extend_from_slice(&[0; 64])?;
         let head = [66, 0, 0, 0, 0, 0, 7, 0, 3];
-        let whole = self.signed(&head, bytes.as_slice(), &[0, 0, 0, 1, 16])?;
-        self.row("a second tentative entry of hut 16", whole.as_slice())
+        let whole = self.signed(&head, bytes.as_slice(), entry)?;
+        self.row(name, whole.as_slice())
+    }
+
+    // All bytes of an entry are read before a number in it is judged.
+    fn tentative(&self) -> anyhow::Result<()> {
+        let far = [0, 0, 0, 1, 16, 2, 0, 0, 0, 1, 1];
+        self.second("a second tentative entry of hut 16", &far)?;
+        self.second("without its last byte", &far[..10])?;
+        self.second("without its kind", &far[..5])?;
+        self.second("of kind 5", &[0, 0, 0, 1, 16, 5])?;
+        let five = [0, 0, 0, 1, 16, 1, 0, 0, 0, 7, 5];
+        self.second("with 5 choices", &five)?;
+        self.second("without how many choices", &five[..10])?;
+        let two = [0, 0, 0, 2, 1, 1, 0, 0, 0, 7, 2, 16, 0, 9, 1, 20, 5, 0, 9, 1];
+        self.second("a choice of hut 16, the next one cut short", &two)
     }
 
     pub fn out_of_range(&self) -> anyhow::Result<()> {

@@ -1,9 +1,9 @@
 -- A reading that reads some bytes ps a value, and finds each shorter part of them cut short: leaves, one after another, many.
-use Rattle.std.proofs.Common.{◌≡◌, ℕ, zero, suc, ◌-◌, ◌<◌, ◌≤◌, List, [], ◌∷◌, ◌++◌, length, take, refl, ap, ◌∙◌, ⊎_elim, append_assoc, arith, length-append, length-take-le, le-ltb, lt-ltb}
+use Rattle.std.proofs.Common.{◌≡◌, ℕ, zero, suc, ◌-◌, ◌<◌, ◌≤◌, Bool, true, if◌then◌else◌, List, [], ◌∷◌, ◌++◌, length, take, refl, ap, ◌∙◌, ⊎_elim, append_assoc, arith, length-append, length-take-le, le-ltb, lt-ltb}
 use lib.Seq.{take-append-le}
 use Rattle.std.specs.List.{flat_map}
 use Rattle.std.proofs.lemmas.Bool.{cases_lt}
-use Rattle.letters.specs.Answers.{Answer, got, short, after, read_times}
+use Rattle.letters.specs.Answers.{Answer, got, short, out, after, read_times}
 use Rattle.letters.specs.Format.{having}
 use Rattle.bookings.specs.Ranges.{Each}
 
@@ -54,6 +54,13 @@ pub codes_map :
     → Codes first ps a → Codes (λ x. after (first x) (λ y r. got (f y) r)) ps (f a)
 codes_map first f ps a p =
     record { round = λ rest. rw (p.round rest) refl; cut = λ k h. rw (p.cut k h) refl }
+
+-- what was read, where it passes a test
+pub codes_judged :
+    {A : Type 0} (first : List ℕ → Answer A) (test : A → Bool) (ps : List ℕ) (a : A)
+    → Codes first ps a → test a ≡ true → Codes (λ x. after (first x) (λ y r. if test y then got y r else out)) ps a
+codes_judged first test ps a p passed =
+    record { round = λ rest. rw (p.round rest, passed) refl; cut = λ k h. rw (p.cut k h) refl }
 
 -- many
 pub codes_times :

@@ -1,5 +1,5 @@
 -- A reading whose answers are in range, and whose bytes are the one encoding of what it read: blocks, one after another, many.
-use Rattle.std.proofs.Common.{◌≡◌, ℕ, zero, suc, ◌≤◌, Bool, true, false, cond, ltb, List, [], ◌∷◌, ◌++◌, length, sym, refl, ap, ◌∙◌, subst, append_assoc, arith}
+use Rattle.std.proofs.Common.{◌≡◌, ℕ, zero, suc, ◌≤◌, Bool, true, false, cond, if◌then◌else◌, ltb, List, [], ◌∷◌, ◌++◌, length, sym, refl, ap, ◌∙◌, subst, append_assoc, arith}
 use Rattle.std.specs.List.{flat_map}
 use Rattle.std.proofs.lemmas.Bool.{ltb-false}
 use Rattle.bookings.specs.Ranges.{Each}
@@ -11,7 +11,7 @@ use Rattle.letters.specs.Laws.{Bytes}
 abbrev pub Exact : {A : Type 0} → List ℕ → (List ℕ → Answer A) → (A → List ℕ) → (A → Type 0) → Type 0
 Exact {A} ps read enc P = (bs : List ℕ) (a : A) (r : List ℕ) → Bytes bs → read bs ≡ got a r → (ps ++ bs ≡ enc a ++ r) × (P a × Bytes r)
 
-after-got :
+pub after-got :
     {A B : Type 0} (x : Answer A) (f : A → List ℕ → Answer B) (b : B) (s : List ℕ) → after x f ≡ got b s
     → (a : A) × ((r : List ℕ) × ((x ≡ got a r) × (f a r ≡ got b s)))
 after-got (got a r) f b s h = (a, (r, (refl, h)))
@@ -60,6 +60,14 @@ exact_cond ps false x y enc P on off = off refl
 
 pub exact_out : {A : Type 0} (ps : List ℕ) (enc : A → List ℕ) (P : A → Type 0) → Exact ps (λ bs. out) enc P
 exact_out ps enc P bs a r bytes h = let z : ◌≡◌ {A = ℕ} 0 1 = cc in absurd (omega arith)
+
+-- what was read, where it passes a test
+pub exact_judged :
+    {A : Type 0} (first : List ℕ → Answer A) (test : A → Bool) (enc : A → List ℕ) (P : A → Type 0) → Exact [] first enc P
+    → Exact [] (λ bs. after (first bs) (λ a r. if test a then got a r else out)) enc (λ a. P a × (test a ≡ true))
+exact_judged first test enc P one =
+    exact_then [] first enc P _ enc (λ a. P a × (test a ≡ true)) one
+    (λ a ok. exact_cond (enc a) (test a) (λ r. got a r) (λ r. out) enc _ (λ passed. exact_got (enc a) a enc _ refl (ok, passed)) (λ _. exact_out (enc a) enc _))
 
 pub exact_times :
     {A : Type 0} (read : List ℕ → Answer A) (enc : A → List ℕ) (P : A → Type 0) → Exact [] read enc P

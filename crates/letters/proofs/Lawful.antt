@@ -57,7 +57,7 @@ unsigned_damaged_lem bs no-sum =
     long_or_damaged (ltb (length bs) 41) _ (ap (λ b. cond (eqb (get_or bs 0 0) 66) (cond b body damaged) damaged) off ∙ unsigned (eqb (get_or bs 0 0) 66) body)
 
 -- where the body is damaged, the letter is
-body_damaged : (bs : List ℕ) → (41 ≤ length bs → read_body (take (length bs - 33) (drop 1 bs)) ≡ damaged) → read_letter bs ≡ damaged
+pub body_damaged : (bs : List ℕ) → (41 ≤ length bs → read_body (take (length bs - 33) (drop 1 bs)) ≡ damaged) → read_letter bs ≡ damaged
 body_damaged bs body = ⊎_elim early late (cases_lt (length bs) 41)
   where
     early : length bs < 41 → read_letter bs ≡ damaged

@@ -2,6 +2,7 @@
 use Rattle.std.proofs.Common.{◌≡◌, ℕ, ◌+◌, ◌<◌, ◌≤◌, Bool, true, false, cond, eqb, List, [], length, sym, refl, ap, ◌∙◌, arith}
 use Rattle.std.proofs.lemmas.Bool.{le-ltb, eq-eqb, ne_eqb, eqb-true}
 use Rattle.bookings.specs.Plain.{PlainEntry}
+use Rattle.entry_log.specs.Waits.{PlainWaiting}
 use Rattle.letters.specs.Answers.{Answer, got}
 use Rattle.letters.specs.Format.{read_two, read_four, reads}
 use Rattle.letters.specs.Letters.{heard, damaged, number, read_waiting, from_tentative, read_tentative, from_committed, read_committed, read_placed, read_body}
@@ -22,34 +23,35 @@ to_committed bs r s n place one two few =
     ∙ ap (λ b. cond b damaged (from_committed n place (read_row reads n s))) (le-ltb 1024 n few)
 
 pub looked_stopped :
-    (bs r s first : List ℕ) (n place out p m : ℕ) (x : End) → read_two bs ≡ got n r → read_four r ≡ got place s → n ≤ 1024
-    → end_of (read_row reads n s) ≡ cond (eqb out 0) x (halted out) → 0 < out → first ≡ s → p ≡ place → m ≡ n
-    → read_body bs ≡ heard p (front reads m first) [] out
-looked_stopped bs r s first n place out p m x one two few end some first-is p-is m-is =
+    (bs r s : List ℕ) (n place out p : ℕ) (x : End) (cs : List PlainEntry) → read_two bs ≡ got n r → read_four r ≡ got place s → n ≤ 1024
+    → end_of (read_row reads n s) ≡ cond (eqb out 0) x (halted out) → 0 < out → cs ≡ front reads n s → p ≡ place
+    → read_body bs ≡ heard p cs [] out
+looked_stopped bs r s n place out p x cs one two few end some cs-is p-is =
     let off : eqb out 0 ≡ false = ne_eqb out 0 (λ none. omega (arith, none, some)) in
     to_committed bs r s n place one two few
     ∙ ap (from_committed n place) (ended reads n out s x end)
-    ∙ rw (off, first-is, p-is, m-is) refl
+    ∙ rw (off, cs-is, p-is) refl
 
 pub looked_through :
-    (bs r s first : List ℕ) (n place out p m : ℕ) (t : List ℕ) → read_two bs ≡ got n r → read_four r ≡ got place s → n ≤ 1024
-    → end_of (read_row reads n s) ≡ cond (eqb out 0) (through t) (halted out) → out ≤ 0 → first ≡ s → p ≡ place → m ≡ n
-    → read_body bs ≡ number (read_two t) (read_tentative m p (front reads m first))
-looked_through bs r s first n place out p m t one two few end none first-is p-is m-is =
+    (bs r s : List ℕ) (n place out p m : ℕ) (t : List ℕ) (cs : List PlainEntry) → read_two bs ≡ got n r → read_four r ≡ got place s → n ≤ 1024
+    → end_of (read_row reads n s) ≡ cond (eqb out 0) (through t) (halted out) → out ≤ 0 → cs ≡ front reads n s → p ≡ place → m + out ≡ n
+    → read_body bs ≡ number (read_two t) (read_tentative m p cs)
+looked_through bs r s n place out p m t cs one two few end none cs-is p-is all =
     let on : eqb out 0 ≡ true = eq-eqb out 0 (omega (arith, none)) in
+    let m-is : m ≡ n = omega (arith, none, all) in
     to_committed bs r s n place one two few
     ∙ ap (from_committed n place) (ended reads n out s (through t) end)
-    ∙ rw (on, first-is, p-is, m-is) refl
+    ∙ rw (on, cs-is, p-is, m-is) refl
 
 pub looked_on :
-    (bs r second t : List ℕ) (n place m k out : ℕ) (cs : List PlainEntry) → read_two bs ≡ got m r → n + m ≤ 1024
-    → end_of (read_row read_waiting m r) ≡ cond (eqb out 0) (through t) (halted out) → second ≡ r → k ≡ m → (eqb out 0 ≡ true → length t ≡ 0)
-    → number (read_two bs) (read_tentative n place cs) ≡ heard place cs (front read_waiting k second) out
-looked_on bs r second t n place m k out cs one few end second_is k-is behind =
+    (bs r t : List ℕ) (n place m out : ℕ) (cs : List PlainEntry) (ws : List PlainWaiting) → read_two bs ≡ got m r → n + m ≤ 1024
+    → end_of (read_row read_waiting m r) ≡ cond (eqb out 0) (through t) (halted out) → ws ≡ front read_waiting m r → (eqb out 0 ≡ true → length t ≡ 0)
+    → number (read_two bs) (read_tentative n place cs) ≡ heard place cs ws out
+looked_on bs r t n place m out cs ws one few end ws-is behind =
     ap (λ a. number a (read_tentative n place cs)) one
     ∙ ap (λ b. cond b damaged (from_tentative place cs (read_row read_waiting m r))) (le-ltb 1024 (n + m) few)
     ∙ ap (from_tentative place cs) (ended read_waiting m out r (through t) end)
-    ∙ rw (second_is, k-is) (at-end (eqb out 0) refl)
+    ∙ rw ws-is (at-end (eqb out 0) refl)
   where
     at-end : (b : Bool) → eqb out 0 ≡ b → from_tentative place cs (row_from (front read_waiting m r) (cond b (through t) (halted out))) ≡ heard place cs (front read_waiting m r) out
     at-end true e = rw (eq-eqb (length t) 0 (behind e)) (ap (heard place cs (front read_waiting m r)) (sym (eqb-true out 0 e)))

@@ -32,13 +32,13 @@ module _ {A : Type 0} (read : List ℕ → Answer A) (enc : A → List ℕ) (P :
           (ap (adds x) (further (k - length (enc x)) more))
 
 -- a row of one form, where each of its values has one
-adds-whole :
+pub adds-whole :
     {A : Type 0} (x : A) (row : Row A) (xs : List A) (r : List ℕ) → adds x row ≡ whole xs r → (ys : List A) × ((row ≡ whole ys r) × (x ∷ ys ≡ xs))
 adds-whole x (whole ys s) xs r h = let s-is : s ≡ r = cc in (ys, (ap (whole ys) s-is, cc))
 adds-whole x (stopped ys k) xs r h = let z : ◌≡◌ {A = ℕ} 0 1 = cc in absurd (omega arith)
 adds-whole x torn xs r h = let z : ◌≡◌ {A = ℕ} 0 1 = cc in absurd (omega arith)
 
-row_after-whole :
+pub row_after-whole :
     {A : Type 0} (n : ℕ) (a : Answer A) (f : A → List ℕ → Row A) (xs : List A) (r : List ℕ) → row_after n a f ≡ whole xs r
     → (x : A) × ((s : List ℕ) × ((a ≡ got x s) × (f x s ≡ whole xs r)))
 row_after-whole n (got x s) f xs r h = (x, (s, (refl, h)))

@@ -19,7 +19,7 @@ unfolding read_stamps
 codes_stamps xs long fit =
     let all = codes_times read_four four (λ n. n < 2 ^ 32) codes_four xs fit in subst (λ n. Codes (read_times read_four n) (flat_map four xs) xs) long all
 
-codes_waiting : (w : PlainWaiting) → WaitingOk w → Codes read_waiting (encode_waiting w) w
+pub codes_waiting : (w : PlainWaiting) → WaitingOk w → Codes read_waiting (encode_waiting w) w
 codes_waiting w ok =
     codes_then reads _ (encode w.entry) (flat_map four w.stood) w.entry w (codes_entry w.entry ok.entry_ok)
     (codes_map read_stamps (λ s. record { entry = w.entry; stood = s }) (flat_map four w.stood) w.stood (codes_stamps w.stood ok.sixteen ok.fit))

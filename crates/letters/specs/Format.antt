@@ -1,8 +1,9 @@
 -- An entry as bytes: how it is written and how it is read. Numbers stand with the high byte first.
-use Rattle.std.specs.Prelude.{ℕ, ◌+◌, ◌*◌, ◌/◌, ◌%◌, Bool, cond, List, [], ◌∷◌, ◌++◌, length, drop, ◌==◌, nat_le, nat_lt, slice_index}
+use Rattle.std.specs.Prelude.{ℕ, ◌+◌, ◌*◌, ◌/◌, ◌%◌, Bool, cond, if◌then◌else◌, List, [], ◌∷◌, ◌++◌, length, drop, ◌==◌, nat_lt, slice_index}
 use Rattle.std.specs.List.{flat_map}
-use Rattle.bookings.specs.Plain.{PlainMark, PlainStay, PlainChoice, PlainKind, book, cancel, change, supply, PlainEntry}
+use Rattle.bookings.specs.Plain.{PlainMark, PlainChoice, PlainKind, book, cancel, change, supply, PlainEntry}
 use Rattle.letters.specs.Answers.{Answer, got, short, out, after, read_times}
+use Rattle.letters.specs.RangeTests.{in_range}
 
 abbrev pub two : ℕ → List ℕ
 two n = (n / 256 % 256) ∷ (n % 256) ∷ []
@@ -61,28 +62,16 @@ abbrev pub mark_at : List ℕ → PlainMark
 mark_at bs = record { stamp = number_of_four bs; hut = slice_index bs 4 }
 
 abbrev pub read_mark : List ℕ → Answer PlainMark
-read_mark bs = having 5 bs (unless (nat_lt (mark_at bs).stamp 1) (unless (nat_le 16 (mark_at bs).hut) (got (mark_at bs) (drop 5 bs))))
+read_mark bs = having 5 bs (got (mark_at bs) (drop 5 bs))
 
 -- the choice that five bytes are
 abbrev pub choice_at : List ℕ → PlainChoice
 choice_at bs = record { stay = record { hut = slice_index bs 0; night = number_of_two (drop 1 bs); nights = slice_index bs 3 }; beds = slice_index bs 4 }
 
--- hut, nights, and the last night are in range
-abbrev pub ranged : {A : Type 0} → PlainStay → Answer A → Answer A
-ranged s a = unless (nat_le 16 s.hut) (unless (nat_lt s.nights 1) (unless (nat_lt 14 s.nights) (unless (nat_lt 366 (s.night + s.nights)) a)))
-
-abbrev pub read_supply : List ℕ → Answer PlainChoice
-read_supply bs = having 5 bs (ranged (choice_at bs).stay (got (choice_at bs) (drop 5 bs)))
-
 abbrev pub read_choice : List ℕ → Answer PlainChoice
-read_choice bs =
-    having 5 bs
-    (ranged (choice_at bs).stay
-    (unless (nat_lt (choice_at bs).beds 1)
-    (unless (nat_lt 20 (choice_at bs).beds)
-    (got (choice_at bs) (drop 5 bs)))))
+read_choice bs = having 5 bs (got (choice_at bs) (drop 5 bs))
 
--- how many, and these
+-- how many, and these; more than four are out of range as soon as the count is read
 abbrev pub read_choices : List ℕ → Answer (List PlainChoice)
 read_choices bs = after (read_one bs) (λ n r. unless (nat_lt 4 n) (read_times read_choice n r))
 
@@ -96,9 +85,9 @@ abbrev pub read_change : List ℕ → Answer PlainKind
 read_change bs = after (read_mark bs) (λ m r. after (read_choices r) (λ cs s. got (change m cs) s))
 
 abbrev pub read_beds : List ℕ → Answer PlainKind
-read_beds bs = after (read_supply bs) (λ c r. got (supply c) r)
+read_beds bs = after (read_choice bs) (λ c r. got (supply c) r)
 
--- a kind that is not known is out of range
+-- a kind that is not known is out of range as soon as it is read
 abbrev pub read_kind : List ℕ → Answer PlainKind
 read_kind bs =
     after (read_one bs)
@@ -108,5 +97,10 @@ read_kind bs =
     (cond (n == 3) (read_change r)
     (cond (n == 4) (read_beds r) out))))
 
+-- all bytes of an entry as numbers, by its kind and its count of choices; no range is judged
+abbrev pub read_numbers : List ℕ → Answer PlainEntry
+read_numbers bs = after (read_mark bs) (λ m r. after (read_kind r) (λ k s. got (record { mark = m; kind = k }) s))
+
+-- an entry's bytes are all read, and then its ranges are judged
 abbrev pub reads : List ℕ → Answer PlainEntry
-reads bs = after (read_mark bs) (λ m r. after (read_kind r) (λ k s. got (record { mark = m; kind = k }) s))
+reads bs = after (read_numbers bs) (λ e r. if in_range e then got e r else out)

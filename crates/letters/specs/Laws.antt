@@ -1,12 +1,13 @@
 -- What holds of the formats.
 use Rattle.std.specs.Prelude.{◌≡◌, ℕ, ◌+◌, ◌-◌, ◌^◌, ◌<◌, ◌≤◌, List, ◌∷◌, ◌++◌, length, take, drop, ◌≢◌}
-use Rattle.bookings.specs.Plain.{PlainKind, book, cancel, change, supply, PlainEntry}
+use Rattle.std.specs.List.{flat_map}
+use Rattle.bookings.specs.Plain.{PlainChoice, PlainKind, book, cancel, change, supply, PlainEntry}
 use Rattle.bookings.specs.Ranges.{Each, InRange}
 use Rattle.entry_log.specs.Waits.{PlainWaiting}
 use Rattle.digest.specs.Sha256.{digest_of}
-use Rattle.letters.specs.Answers.{got, short}
-use Rattle.letters.specs.Format.{encode, reads}
-use Rattle.letters.specs.Letters.{PlainLetter, encode_letter, heard, damaged, read_letter}
+use Rattle.letters.specs.Answers.{got, short, out}
+use Rattle.letters.specs.Format.{encode, two, four, reads}
+use Rattle.letters.specs.Letters.{PlainLetter, encode_waiting, encode_letter, heard, damaged, read_letter}
 
 -- stamps and guests are numbers of four bytes
 abbrev pub KindFits : PlainKind → Type 0
@@ -21,6 +22,22 @@ pub record EntryOk (e : PlainEntry) : Type 0 where
   pub stamp_fits : e.mark.stamp < 2 ^ 32
   pub kind_fits : KindFits e.kind
 
+-- nights are numbers of two bytes; there are four choices at most
+abbrev pub NightFits : PlainChoice → Type 0
+NightFits c = c.stay.night < 65536
+
+abbrev pub NightsFit : PlainKind → Type 0
+NightsFit (book guest cs) = (length cs ≤ 4) × Each NightFits cs
+NightsFit (cancel m) = Unit {0}
+NightsFit (change m cs) = (length cs ≤ 4) × Each NightFits cs
+NightsFit (supply c) = NightFits c
+
+-- an entry that can be written as bytes, in range or not
+pub record Encodable (e : PlainEntry) : Type 0 where
+  pub stamp_fits : e.mark.stamp < 2 ^ 32
+  pub kind_fits : KindFits e.kind
+  pub nights_fit : NightsFit e.kind
+
 abbrev pub Bytes : List ℕ → Type 0
 Bytes bs = Each (λ b. b < 256) bs
 
@@ -33,9 +50,13 @@ abbrev pub EntryPrefixFree : Type 0
 EntryPrefixFree =
     (e f : PlainEntry) (r s : List ℕ) → EntryOk e → EntryOk f → encode e ++ r ≡ encode f ++ s → (e ≡ f) × (r ≡ s)
 
--- an entry that is cut short is found short
+-- LAW: an entry that is cut short is found short, also where it is out of range: all its bytes are read before its ranges are judged
 abbrev pub EntryCutShort : Type 0
-EntryCutShort = (e : PlainEntry) (k : ℕ) → EntryOk e → k < length (encode e) → reads (take k (encode e)) ≡ short
+EntryCutShort = (e : PlainEntry) (k : ℕ) → Encodable e → k < length (encode e) → reads (take k (encode e)) ≡ short
+
+-- LAW: an entry that is out of range is found so where all its bytes are there, whatever follows
+abbrev pub EntryOutOfRange : Type 0
+EntryOutOfRange = (e : PlainEntry) (rest : List ℕ) → Encodable e → (InRange e → ⊥) → reads (encode e ++ rest) ≡ out
 
 -- what is read is in range, and the bytes before the rest are its one encoding
 abbrev pub EntryOneForm : Type 0
@@ -82,3 +103,24 @@ CutDamaged = (l : PlainLetter) (k : ℕ) → LetterOk l → k < length (encode_l
 -- and so is one with anything behind it
 abbrev pub LongerDamaged : Type 0
 LongerDamaged = (l : PlainLetter) (b : ℕ) (bs : List ℕ) → LetterOk l → read_letter (encode_letter l ++ b ∷ bs) ≡ damaged
+
+-- a letter of any bytes between the first byte and a right digest
+abbrev pub with_digest : List ℕ → List ℕ
+with_digest body = (66 ∷ body) ++ digest_of (66 ∷ body)
+
+-- LAW: a letter whose bytes end within a committed entry is damaged, whatever the numbers of that entry and the digest
+abbrev pub CommittedCutDamaged : Type 0
+CommittedCutDamaged =
+    (place n k : ℕ) (cs : List PlainEntry) (e : PlainEntry) → place < 2 ^ 32 → n ≤ 1024 → length cs < n → Each EntryOk cs → Encodable e
+    → k < length (encode e) → read_letter (with_digest (two n ++ (four place ++ (flat_map encode cs ++ take k (encode e))))) ≡ damaged
+
+-- the bytes of a letter that has m tentative entries by its count
+abbrev pub body_up_to : PlainLetter → ℕ → List ℕ → List ℕ
+body_up_to l m part =
+    two (length l.committed) ++ (four l.place ++ (flat_map encode l.committed ++ (two m ++ (flat_map encode_waiting l.tentative ++ part))))
+
+-- LAW: and so is a letter whose bytes end within a tentative entry
+abbrev pub TentativeCutDamaged : Type 0
+TentativeCutDamaged =
+    (l : PlainLetter) (m k : ℕ) (e : PlainEntry) → LetterOk l → length l.committed + m ≤ 1024 → length l.tentative < m → Encodable e
+    → k < length (encode e) → read_letter (with_digest (body_up_to l m (take k (encode e)))) ≡ damaged

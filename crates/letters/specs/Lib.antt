@@ -5,5 +5,6 @@ pub mod Format
 pub mod Items
 pub mod Laws
 pub mod Letters
+pub mod RangeTests
 pub mod Rows
 pub mod Sent

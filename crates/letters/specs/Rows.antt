@@ -1,5 +1,5 @@
 -- Reading a number of entries: all, or those before the first that is out of range, or the bytes end too soon.
-use Rattle.std.specs.Prelude.{ℕ, zero, suc, List, [], ◌∷◌}
+use Rattle.std.specs.Prelude.{◌≡◌, ℕ, zero, suc, List, [], ◌∷◌, ◌++◌}
 use Rattle.letters.specs.Answers.{Answer, got, short, out}
 
 -- all and the bytes behind them; those before the first out of range and how many are kept out; cut short
@@ -43,3 +43,8 @@ front_after out f = []
 abbrev pub front : {A : Type 0} → (List ℕ → Answer A) → ℕ → List ℕ → List A
 front read zero bs = []
 front read (suc n) bs = front_after (read bs) (λ x r. x ∷ front read n r)
+
+-- what stands before the rest is the own part of n values
+abbrev pub OwnRow : {A : Type 0} → (List ℕ → Answer A) → ℕ → List ℕ → List ℕ → Type 0
+OwnRow {A} read n bs rest =
+    (part : List ℕ) × ((bs ≡ part ++ rest) × ((xs : List A) × ((more : List ℕ) → read_row read n (part ++ more) ≡ whole xs more)))

@@ -1,6 +1,6 @@
 // Values with a form in bytes: they are written and read one behind the other.
-ghost use Rattle.std.specs.Prelude.{◌≡◌, ℕ, ◌≤◌, List, length, MatchResult};
-ghost use Rattle.letters.specs.Answers.{Answer, got, wrong};
+ghost use Rattle.std.specs.Prelude.{◌≡◌, ℕ, ◌≤◌, List, length, MatchResult, IfOk};
+ghost use Rattle.letters.specs.Answers.{Answer, got, wrong, OwnPart};
 ghost use Rattle.letters.specs.Buffers.{Room, Written};
 
 use crate::reader::Reader;
@@ -8,15 +8,13 @@ use crate::wrong::Wrong;
 
 mod values;
 
-// What a value means, the bytes of that, what bytes are read as, and which meanings the format can hold.
+// What a value means, the bytes of that, and which meanings the format can hold.
 pub(crate) trait Coded: Copy {
     ghost Plain: { Type 0 };
 
     ghost plain: { Self → Plain };
 
     ghost encoding: { Plain → List ℕ };
-
-    ghost reading: { List ℕ → Answer Plain };
 
     ghost Fits: { Plain → Type 0 };
 
@@ -26,14 +24,24 @@ pub(crate) trait Coded: Copy {
         ensures written { Written out.old out.new (encoding (plain self.now)) }
         ensures fits { Fits (plain self.now) };
 
-    // The next value.
-    fn read(reader: &mut Reader<'_>) -> Result<Self, Wrong>
-        ensures { MatchResult result
-            (λ v. reading reader.old.rest.now ≡ got (plain v) reader.new.rest.now)
-            (λ e. reading reader.old.rest.now ≡ wrong e) };
-
     // How many bytes it takes.
     fn size(&self) -> usize
         ensures value { result ≡ length (encoding (plain self.now)) }
         ensures small { result ≤ 96 };
+}
+
+// Values that are read one behind the other: what a value means, and what bytes are read as.
+pub(crate) trait Decoded: Copy {
+    ghost Plain: { Type 0 };
+
+    ghost plain: { Self → Plain };
+
+    ghost reading: { List ℕ → Answer Plain };
+
+    // The next value.
+    fn read(reader: &mut Reader<'_>) -> Result<Self, Wrong>
+        ensures value { MatchResult result
+            (λ v. reading reader.old.rest.now ≡ got (plain v) reader.new.rest.now)
+            (λ e. reading reader.old.rest.now ≡ wrong e) }
+        ensures part { IfOk result (λ v. OwnPart reading (plain v) reader.old.rest.now reader.new.rest.now) };
 }

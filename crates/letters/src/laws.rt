@@ -1,6 +1,10 @@
 // The laws of the formats: each stands on the contract of a function.
+<<<<<<< HEAD
 ghost use Rattle.letters.specs.Counting.{CountsAddUp};
 ghost use Rattle.letters.specs.Laws.{EntryRoundTrip, EntryPrefixFree, EntryCutShort, EntryOneForm, EntrySmall, LetterRoundTrip, LetterInjective, LetterOneForm, UnsignedDamaged, CutDamaged, LongerDamaged};
+=======
+ghost use Rattle.letters.specs.Laws.{EntryRoundTrip, EntryPrefixFree, EntryCutShort, EntryOutOfRange, EntryOneForm, EntrySmall, LetterRoundTrip, LetterInjective, LetterOneForm, UnsignedDamaged, CutDamaged, LongerDamaged, CommittedCutDamaged, TentativeCutDamaged};
+>>>>>>> f65df312aebdf34ccefc0e373155a3e21a579483
 
 // Reading an entry that was written gives it back.
 pub fn entry_round_trip()
@@ -12,9 +16,14 @@ pub fn entry_prefix_free()
     ensures { EntryPrefixFree }
 {}
 
-// An entry that is cut short is found short.
+// An entry that is cut short is found short, also where it is out of range.
 pub fn entry_cut_short()
     ensures { EntryCutShort }
+{}
+
+// An entry that is out of range is found so where all its bytes are there.
+pub fn entry_out_of_range()
+    ensures { EntryOutOfRange }
 {}
 
 // What is read as an entry is in range, and its bytes are the one form that it has.
@@ -57,7 +66,18 @@ pub fn longer_damaged()
     ensures { LongerDamaged }
 {}
 
+<<<<<<< HEAD
 // What is heard and what is kept out are as many entries as the count fields say.
 pub fn counts_add_up()
     ensures { CountsAddUp }
+=======
+// A letter whose bytes end within a committed entry is damaged, whatever the numbers of that entry.
+pub fn committed_cut_damaged()
+    ensures { CommittedCutDamaged }
+{}
+
+// So is one whose bytes end within a tentative entry.
+pub fn tentative_cut_damaged()
+    ensures { TentativeCutDamaged }
+>>>>>>> f65df312aebdf34ccefc0e373155a3e21a579483
 {}

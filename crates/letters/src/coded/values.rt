@@ -3,11 +3,11 @@ ghost use Rattle.std.specs.Prelude.{ℕ, ◌^◌, ◌<◌};
 ghost use Rattle.bookings.specs.Plain.{PlainChoice, plain_choice, PlainEntry, plain};
 ghost use Rattle.bookings.specs.Ranges.{ChoiceOk};
 ghost use Rattle.entry_log.specs.Waits.{PlainWaiting, plain_waiting};
-ghost use Rattle.letters.specs.Format.{four, encode_choice, encode, read_four, read_choice, reads};
+ghost use Rattle.letters.specs.Format.{four, encode_choice, encode, read_four, reads};
 ghost use Rattle.letters.specs.Laws.{EntryOk, WaitingOk};
 ghost use Rattle.letters.specs.Letters.{encode_waiting, read_waiting};
 
-use super::Coded;
+use super::{Coded, Decoded};
 use crate::reader::Reader;
 use crate::writer::{entry_size, put, put_all, put_choice, write_entry};
 use crate::wrong::Wrong;
@@ -21,20 +21,26 @@ impl Coded for u32 {
 
     ghost encoding = { four };
 
-    ghost reading = { read_four };
-
     ghost Fits = { λ n. n < 2 ^ 32 };
 
     fn write(&self, out: &mut Vec<u8>) {
         put(out, &self.to_be_bytes());
     }
 
-    fn read(reader: &mut Reader<'_>) -> Result<u32, Wrong> {
-        reader.four()
-    }
-
     fn size(&self) -> usize {
         4
+    }
+}
+
+impl Decoded for u32 {
+    ghost Plain = { ℕ };
+
+    ghost plain = { λ n. n };
+
+    ghost reading = { read_four };
+
+    fn read(reader: &mut Reader<'_>) -> Result<u32, Wrong> {
+        reader.four()
     }
 }
 
@@ -45,16 +51,10 @@ impl Coded for Choice {
 
     ghost encoding = { encode_choice };
 
-    ghost reading = { read_choice };
-
     ghost Fits = { ChoiceOk };
 
     fn write(&self, out: &mut Vec<u8>) {
         put_choice(out, self.stay, self.beds);
-    }
-
-    fn read(reader: &mut Reader<'_>) -> Result<Choice, Wrong> {
-        reader.choice()
     }
 
     fn size(&self) -> usize {
@@ -69,20 +69,26 @@ impl Coded for Entry {
 
     ghost encoding = { encode };
 
-    ghost reading = { reads };
-
     ghost Fits = { EntryOk };
 
     fn write(&self, out: &mut Vec<u8>) {
         write_entry(out, self);
     }
 
-    fn read(reader: &mut Reader<'_>) -> Result<Entry, Wrong> {
-        reader.entry()
-    }
-
     fn size(&self) -> usize {
         entry_size(self)
+    }
+}
+
+impl Decoded for Entry {
+    ghost Plain = { PlainEntry };
+
+    ghost plain = { plain };
+
+    ghost reading = { reads };
+
+    fn read(reader: &mut Reader<'_>) -> Result<Entry, Wrong> {
+        reader.entry()
     }
 }
 
@@ -93,8 +99,6 @@ impl Coded for Waiting {
 
     ghost encoding = { encode_waiting };
 
-    ghost reading = { read_waiting };
-
     ghost Fits = { WaitingOk };
 
     fn write(&self, out: &mut Vec<u8>) {
@@ -102,11 +106,19 @@ impl Coded for Waiting {
         put_all(out, &self.stood.stamps());
     }
 
-    fn read(reader: &mut Reader<'_>) -> Result<Waiting, Wrong> {
-        reader.waiting()
-    }
-
     fn size(&self) -> usize {
         entry_size(&self.entry) + 64
+    }
+}
+
+impl Decoded for Waiting {
+    ghost Plain = { PlainWaiting };
+
+    ghost plain = { plain_waiting };
+
+    ghost reading = { read_waiting };
+
+    fn read(reader: &mut Reader<'_>) -> Result<Waiting, Wrong> {
+        reader.waiting()
     }
 }

@@ -4,11 +4,11 @@ ghost use Rattle.std.specs.Iterator.{YieldsFirstBy, item_count};
 ghost use Rattle.letters.specs.Items.{unread, committed_left, tentative_left, left, plain_item};
 
 use super::{Item, Letter, Unread};
-use crate::coded::Coded;
+use crate::coded::Decoded;
 
 impl<'a> Unread<'a> {
     // The next value. Where one cannot be read, which was found when the letter was opened, none is left.
-    fn next<V: Coded>(&mut self) -> Option<V>
+    fn next<V: Decoded>(&mut self) -> Option<V>
         ensures next { MatchOption result
             ((unread V.reading self.old ≡ []) × (self.new.count ≡ 0))
             (λ v. (unread V.reading self.old ≡ V.plain v ∷ unread V.reading self.new) × (self.old.count ≡ self.new.count + 1)) }

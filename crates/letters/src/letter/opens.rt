@@ -1,23 +1,40 @@
 // Opening a letter: its first byte, length and digest, and then from its front to its end or to the first entry out of range.
-ghost use Rattle.std.specs.Prelude.{◌≡◌, MatchResult};
+ghost use Rattle.std.specs.Prelude.{◌≡◌, ◌+◌, ◌++◌, if◌then◌else◌, MatchResult, IfOk, nat_eq};
 ghost use Rattle.bookings.specs.Refusals.{number_of};
-ghost use Rattle.letters.specs.Items.{heard_of, heard_on};
+ghost use Rattle.letters.specs.Items.{unread, heard_of, heard_on};
 ghost use Rattle.letters.specs.Letters.{damaged, read_body, read_letter};
+ghost use Rattle.letters.specs.Rows.{read_row, end_of, through, halted, cut, front};
 
 use super::{LETTER, Letter, Unread};
+use crate::coded::Decoded;
 use crate::reader::Reader;
 use bookings::entry::Entry;
 use bookings::refusal::Refusal;
 use entry_log::waiting::Waiting;
 
 impl<'a> Unread<'a> {
-    // So many values, from where another reader stands.
-    fn new(count: u16, at: &Reader<'a>) -> Unread<'a>
+    // So many values, in their part of the letter.
+    fn new(count: u16, part: &'a [u8]) -> Unread<'a>
         ensures count { result.count ≡ count }
-        ensures rest { result.reader.rest.now ≡ at.now.rest.now }
+        ensures part { result.reader.rest.now ≡ part.now }
     {
-        let reader = Reader::new(at.rest());
+        let reader = Reader::new(part);
         Unread { count, reader }
+    }
+
+    // Looks through so many values: those that can be read, in their part of the letter, and how many are kept out, from the first that is out of range on.
+    fn look<V: Decoded>(reader: &mut Reader<'a>, count: u16) -> Result<(Unread<'a>, u16), Refusal>
+        ensures ends { MatchResult result
+            (λ v. end_of (read_row V.reading count reader.old.rest.now) ≡ (if nat_eq v.1 0 then through reader.new.rest.now else halted v.1))
+            (λ e. (number_of e ≡ 1) × (end_of (read_row V.reading count reader.old.rest.now) ≡ cut)) }
+        ensures values { IfOk result (λ v. unread V.reading v.0 ≡ front V.reading count reader.old.rest.now) }
+        ensures part { IfOk result (λ v. reader.old.rest.now ≡ v.0.reader.rest.now ++ reader.new.rest.now) }
+        ensures count { IfOk result (λ v. v.0.count + v.1 ≡ count) }
+    {
+        let before = reader.rest();
+        let out = reader.pass::<V>(count)?;
+        let part = &before[..before.len() - reader.rest().len()];
+        Ok((Unread::new(count - out, part), out))
     }
 }
 
@@ -49,12 +66,11 @@ impl<'a> Letter<'a> {
         if count > LETTER {
             return Err(Refusal::Damaged);
         }
-        let committed = Unread::new(count, &reader);
-        let out = reader.pass::<Entry>(count)?;
+        let (committed, out) = Unread::look::<Entry>(&mut reader, count)?;
         let letter = Letter {
             place: u64::from(place),
             committed,
-            tentative: Unread::new(0, &reader),
+            tentative: Unread::new(0, &[]),
             out,
         };
         if out > 0 {
@@ -73,8 +89,7 @@ impl<'a> Letter<'a> {
         if u32::from(self.committed.count) + u32::from(count) > u32::from(LETTER) {
             return Err(Refusal::Damaged);
         }
-        let tentative = Unread::new(count, &reader);
-        let out = reader.pass::<Waiting>(count)?;
+        let (tentative, out) = Unread::look::<Waiting>(&mut reader, count)?;
         if out == 0 && reader.rest().len() > 0 {
             return Err(Refusal::Damaged);
         }

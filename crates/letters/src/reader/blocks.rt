@@ -1,10 +1,13 @@
-// Numbers, marks and nights: each is a few bytes, looked at when all of them are there.
+// Numbers, marks and nights: each is a few bytes. One that is out of range is `None`, and its bytes are passed all the same.
 ghost use Rattle.std.specs.Prelude.{◌≡◌, ◌+◌, ◌<◌, ◌≤◌, length, drop, slice_index, MatchResult, IfOk, EachIndex};
+ghost use Rattle.std.specs.Bool.{then_some};
+ghost use Rattle.std.specs.Option.{option_map};
 ghost use Rattle.bookings.specs.Plain.{plain_mark, plain_stay, plain_choice, plain_supply};
-ghost use Rattle.letters.specs.Answers.{got, wrong};
+ghost use Rattle.letters.specs.Answers.{got, wrong, judged};
 ghost use Rattle.letters.specs.declared.wrong.Wrong.TheVariants.{Short};
 ghost use Rattle.letters.specs.Laws.{Bytes};
-ghost use Rattle.letters.specs.Format.{read_one, read_two, read_four, read_mark, read_choice, read_supply};
+ghost use Rattle.letters.specs.Format.{read_one, read_two, read_four, choice_at, read_mark, read_choice};
+ghost use Rattle.letters.specs.RangeTests.{mark_in_range, stay_in_range, choice_in_range, supply_in_range};
 
 use super::Reader;
 use crate::wrong::Wrong;
@@ -66,45 +69,45 @@ impl<'a> Reader<'a> {
         Ok(u32::from_be_bytes(self.take()?))
     }
 
-    pub(crate) fn mark(&mut self) -> Result<Mark, Wrong>
+    pub(crate) fn mark(&mut self) -> Result<Option<Mark>, Wrong>
         ensures { MatchResult result
-            (λ m. read_mark self.old.rest.now ≡ got (plain_mark m) self.new.rest.now)
-            (λ e. read_mark self.old.rest.now ≡ wrong e) }
+            (λ m. judged mark_in_range (read_mark self.old.rest.now) ≡ got (option_map plain_mark m) self.new.rest.now)
+            (λ e. judged mark_in_range (read_mark self.old.rest.now) ≡ wrong e) }
     {
         let [a, b, c, d, hut] = self.take::<5>()?;
         let stamp = u32::from_be_bytes([a, b, c, d]);
-        Mark::new(u64::from(stamp), u64::from(hut)).map_err(|_| Wrong::Out)
+        Ok(Mark::new(u64::from(stamp), u64::from(hut)).ok())
     }
 
-    // A stay and a number of beds.
-    fn stay(&mut self) -> Result<(Stay, u8), Wrong>
-        ensures { MatchResult result
-            (λ v. read_supply self.old.rest.now ≡ got (record { stay = plain_stay v.0; beds = v.1 }) self.new.rest.now)
-            (λ e. read_supply self.old.rest.now ≡ wrong e) }
+    // A stay, if it is in range, and a number of beds.
+    fn stay(&mut self) -> Result<(Option<Stay>, u8), Wrong>
+        ensures stay { MatchResult result
+            (λ v. read_choice self.old.rest.now ≡ got (choice_at self.old.rest.now) self.new.rest.now)
+            (λ e. read_choice self.old.rest.now ≡ wrong e) }
+        ensures value { IfOk result (λ v. option_map plain_stay v.0 ≡ then_some (stay_in_range (choice_at self.old.rest.now).stay) (choice_at self.old.rest.now).stay) }
+        ensures beds { IfOk result (λ v. v.1 ≡ (choice_at self.old.rest.now).beds) }
     {
         let [hut, high, low, nights, beds] = self.take::<5>()?;
         let night = u16::from_be_bytes([high, low]);
-        let stay = Stay::new(u64::from(hut), u64::from(night), u64::from(nights)).map_err(
-            |_| Wrong::Out,
-        )?;
+        let stay = Stay::new(u64::from(hut), u64::from(night), u64::from(nights)).ok();
         Ok((stay, beds))
     }
 
-    pub(crate) fn supply(&mut self) -> Result<Supply, Wrong>
+    pub(crate) fn supply(&mut self) -> Result<Option<Supply>, Wrong>
         ensures { MatchResult result
-            (λ v. read_supply self.old.rest.now ≡ got (plain_supply v) self.new.rest.now)
-            (λ e. read_supply self.old.rest.now ≡ wrong e) }
+            (λ v. judged supply_in_range (read_choice self.old.rest.now) ≡ got (option_map plain_supply v) self.new.rest.now)
+            (λ e. judged supply_in_range (read_choice self.old.rest.now) ≡ wrong e) }
     {
         let (stay, beds) = self.stay()?;
-        Ok(Supply { stay, beds })
+        Ok(stay.map(|stay| Supply { stay, beds }))
     }
 
-    pub(crate) fn choice(&mut self) -> Result<Choice, Wrong>
+    pub(crate) fn choice(&mut self) -> Result<Option<Choice>, Wrong>
         ensures { MatchResult result
-            (λ v. read_choice self.old.rest.now ≡ got (plain_choice v) self.new.rest.now)
-            (λ e. read_choice self.old.rest.now ≡ wrong e) }
+            (λ v. judged choice_in_range (read_choice self.old.rest.now) ≡ got (option_map plain_choice v) self.new.rest.now)
+            (λ e. judged choice_in_range (read_choice self.old.rest.now) ≡ wrong e) }
     {
         let (stay, beds) = self.stay()?;
-        Choice::new(stay, u64::from(beds)).map_err(|_| Wrong::Out)
+        Ok(stay.and_then(|stay| Choice::new(stay, u64::from(beds)).ok()))
     }
 }

@@ -1,13 +1,13 @@
 // Many values, one behind the other.
-ghost use Rattle.std.specs.Prelude.{◌≡◌, if◌then◌else◌, map, length, MatchResult, nat_eq};
+ghost use Rattle.std.specs.Prelude.{◌≡◌, ◌-◌, ◌≤◌, if◌then◌else◌, map, length, MatchResult, IfOk, nat_eq};
 ghost use Rattle.bookings.specs.Refusals.{number_of};
 ghost use Rattle.entry_log.specs.Waits.{plain_waiting};
 ghost use Rattle.letters.specs.Answers.{got, wrong, read_times};
 ghost use Rattle.letters.specs.Letters.{read_stamps, read_waiting};
-ghost use Rattle.letters.specs.Rows.{read_row, end_of, through, halted, cut};
+ghost use Rattle.letters.specs.Rows.{OwnRow, read_row, end_of, through, halted, cut};
 
 use super::Reader;
-use crate::coded::Coded;
+use crate::coded::Decoded;
 use crate::wrong::Wrong;
 use bookings::refusal::Refusal;
 use entry_log::vector::Vector;
@@ -15,7 +15,7 @@ use entry_log::waiting::Waiting;
 
 impl<'a> Reader<'a> {
     // Reads a value into each of some places.
-    pub(crate) fn fill<V: Coded>(&mut self, places: &mut [V]) -> Result<(), Wrong>
+    pub(crate) fn fill<V: Decoded>(&mut self, places: &mut [V]) -> Result<(), Wrong>
         ensures { MatchResult result
             (λ _. read_times V.reading (length places.old) self.old.rest.now ≡ got (map V.plain places.new) self.new.rest.now)
             (λ e. read_times V.reading (length places.old) self.old.rest.now ≡ wrong e) }
@@ -50,17 +50,23 @@ impl<'a> Reader<'a> {
     }
 
     // Goes past so many values, or up to the first that is out of range; says how many are kept out.
-    pub(crate) fn pass<V: Coded>(&mut self, count: u16) -> Result<u16, Refusal>
-        ensures { MatchResult result
+    pub(crate) fn pass<V: Decoded>(&mut self, count: u16) -> Result<u16, Refusal>
+        ensures ends { MatchResult result
             (λ out. end_of (read_row V.reading count self.old.rest.now) ≡ (if nat_eq out 0 then through self.new.rest.now else halted out))
             (λ e. (number_of e ≡ 1) × (end_of (read_row V.reading count self.old.rest.now) ≡ cut)) }
+        ensures passed { IfOk result (λ out. OwnRow V.reading (count - out) self.old.rest.now self.new.rest.now) }
+        ensures few { IfOk result (λ out. out ≤ count) }
     {
         // Counted, since how many are left is the answer where one is out of range.
         for i in 0..count {
+            let from = self.rest;
             match V::read(self) {
                 Ok(_) => {}
                 Err(Wrong::Short) => return Err(Refusal::Damaged),
-                Err(Wrong::Out) => return Ok(count - i),
+                Err(Wrong::Out) => {
+                    self.rest = from;
+                    return Ok(count - i);
+                }
             }
         }
         Ok(0)

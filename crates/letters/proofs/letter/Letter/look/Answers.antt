@@ -1,6 +1,7 @@
 use Rattle.std.proofs.Common.{◌≡◌, sym, subst, rules, MatchResult}
 use Rattle.bookings.specs.Refusals.{number_of}
-use Rattle.letters.specs.Items.{heard_of}
+use Rattle.letters.specs.Format.{reads}
+use Rattle.letters.specs.Items.{unread, heard_of}
 use Rattle.letters.specs.Letters.{Heard, damaged}
 use Rattle.letters.proofs.Looking.{looked_stopped, looked_through}
 use Rattle.letters.proofs.letter.Letter.look.Goals as goal
@@ -8,38 +9,38 @@ use Rattle.letters.proofs.letter.Letter.look.Goals as goal
 pub returns-then-out-gt0 : goal.returns-then-out-gt0
 returns-then-out-gt0 c =
     rw c.new.ensures.count
-    (looked_stopped c.args.reader.rest.now c.two.new.self.rest.now c.four.new.self.rest.now c.new-committed.result.reader.rest.now
+    (looked_stopped c.args.reader.rest.now c.two.new.self.rest.now c.four.new.self.rest.now
     c.in_ok-count.count
     c.in_ok-place.place
-    c.in_ok-out.out
+    c.in_ok-committed.out
     c.from.result
-    c.new-committed.result.count
     _
+    (unread reads c.in_ok-committed.committed)
     (search rules)
     (search rules)
     c.if-count-gt-LETTER.false
-    c.in_ok-out.ensures
+    c.in_ok-committed.ensures.ends
     c.if-out-gt0.true
-    c.new-committed.ensures.rest
-    (search rules)
-    c.new-committed.ensures.count)
+    c.in_ok-committed.ensures.values
+    (search rules))
 
 pub returns : goal.returns
 returns c =
     let e =
-    looked_through c.args.reader.rest.now c.two.new.self.rest.now c.four.new.self.rest.now c.new-committed.result.reader.rest.now
+    looked_through c.args.reader.rest.now c.two.new.self.rest.now c.four.new.self.rest.now
     c.in_ok-count.count
     c.in_ok-place.place
-    c.in_ok-out.out
+    c.in_ok-committed.out
     c.from.result
-    c.new-committed.result.count
-    c.pass.new.self.rest.now
+    c.in_ok-committed.committed.count
+    c.look.new.reader.rest.now
+    (unread reads c.in_ok-committed.committed)
     (search rules)
     (search rules)
     c.if-count-gt-LETTER.false
-    c.in_ok-out.ensures
+    c.in_ok-committed.ensures.ends
     c.if-out-gt0.false
-    c.new-committed.ensures.rest
+    c.in_ok-committed.ensures.values
     (search rules)
-    c.new-committed.ensures.count in
+    c.in_ok-committed.ensures.count in
     subst (λ (h : Heard). MatchResult c.look_on.result (λ l. h ≡ heard_of l) (λ e. (number_of e ≡ 1) × (h ≡ damaged))) (sym e) c.look_on.ensures
