@@ -1,10 +1,6 @@
 // The laws of the formats: each stands on the contract of a function.
-<<<<<<< HEAD
 ghost use Rattle.letters.specs.Counting.{CountsAddUp};
-ghost use Rattle.letters.specs.Laws.{EntryRoundTrip, EntryPrefixFree, EntryCutShort, EntryOneForm, EntrySmall, LetterRoundTrip, LetterInjective, LetterOneForm, UnsignedDamaged, CutDamaged, LongerDamaged};
-=======
-ghost use Rattle.letters.specs.Laws.{EntryRoundTrip, EntryPrefixFree, EntryCutShort, EntryOutOfRange, EntryOneForm, EntrySmall, LetterRoundTrip, LetterInjective, LetterOneForm, UnsignedDamaged, CutDamaged, LongerDamaged, CommittedCutDamaged, TentativeCutDamaged};
->>>>>>> f65df312aebdf34ccefc0e373155a3e21a579483
+ghost use Rattle.letters.specs.Laws.{EntryRoundTrip, EntryPrefixFree, EntryCutShort, EntryOneForm, EntrySmall, LetterRoundTrip, LetterInjective, LetterOneForm, UnsignedDamaged, CutDamaged, LongerDamaged, EntryOutOfRange, CommittedCutDamaged, TentativeCutDamaged};
 
 // Reading an entry that was written gives it back.
 pub fn entry_round_trip()
@@ -16,14 +12,9 @@ pub fn entry_prefix_free()
     ensures { EntryPrefixFree }
 {}
 
-// An entry that is cut short is found short, also where it is out of range.
+// An entry that is cut short is found short.
 pub fn entry_cut_short()
     ensures { EntryCutShort }
-{}
-
-// An entry that is out of range is found so where all its bytes are there.
-pub fn entry_out_of_range()
-    ensures { EntryOutOfRange }
 {}
 
 // What is read as an entry is in range, and its bytes are the one form that it has.
@@ -66,11 +57,16 @@ pub fn longer_damaged()
     ensures { LongerDamaged }
 {}
 
-<<<<<<< HEAD
 // What is heard and what is kept out are as many entries as the count fields say.
 pub fn counts_add_up()
     ensures { CountsAddUp }
-=======
+{}
+
+// An entry that is out of range is found so where all its bytes are there.
+pub fn entry_out_of_range()
+    ensures { EntryOutOfRange }
+{}
+
 // A letter whose bytes end within a committed entry is damaged, whatever the numbers of that entry.
 pub fn committed_cut_damaged()
     ensures { CommittedCutDamaged }
@@ -79,5 +75,4 @@ pub fn committed_cut_damaged()
 // So is one whose bytes end within a tentative entry.
 pub fn tentative_cut_damaged()
     ensures { TentativeCutDamaged }
->>>>>>> f65df312aebdf34ccefc0e373155a3e21a579483
 {}
