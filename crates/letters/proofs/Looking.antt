@@ -2,6 +2,7 @@
 use Rattle.std.proofs.Common.{◌≡◌, ℕ, ◌+◌, ◌<◌, ◌≤◌, Bool, true, false, cond, eqb, List, [], length, sym, refl, ap, ◌∙◌, arith}
 use Rattle.std.proofs.lemmas.Bool.{le-ltb, eq-eqb, ne_eqb, eqb-true}
 use Rattle.bookings.specs.Plain.{PlainEntry}
+use Rattle.entry_log.specs.declared.waiting.TheConstants.{MAX_LETTER_ENTRIES}
 use Rattle.letters.specs.Answers.{Answer, got}
 use Rattle.letters.specs.Format.{read_two, read_four, reads}
 use Rattle.letters.specs.Letters.{heard, damaged, number, read_waiting, from_tentative, read_tentative, from_committed, read_committed, read_placed, read_body}
@@ -14,15 +15,15 @@ ended : {A : Type 0} (read : List ℕ → Answer A) (n out : ℕ) (bs : List ℕ
 ended read n out bs x h = row_from_lem read n bs ∙ ap (row_from (front read n bs)) h
 
 to_committed :
-    (bs r s : List ℕ) (n place : ℕ) → read_two bs ≡ got n r → read_four r ≡ got place s → n ≤ 1024
+    (bs r s : List ℕ) (n place : ℕ) → read_two bs ≡ got n r → read_four r ≡ got place s → n ≤ MAX_LETTER_ENTRIES
     → read_body bs ≡ from_committed n place (read_row reads n s)
 to_committed bs r s n place one two few =
     ap (λ a. number a read_placed) one
     ∙ ap (λ a. number a (read_committed n)) two
-    ∙ ap (λ b. cond b damaged (from_committed n place (read_row reads n s))) (le-ltb 1024 n few)
+    ∙ ap (λ b. cond b damaged (from_committed n place (read_row reads n s))) (le-ltb MAX_LETTER_ENTRIES n few)
 
 pub looked_stopped :
-    (bs r s first : List ℕ) (n place out p m : ℕ) (x : End) → read_two bs ≡ got n r → read_four r ≡ got place s → n ≤ 1024
+    (bs r s first : List ℕ) (n place out p m : ℕ) (x : End) → read_two bs ≡ got n r → read_four r ≡ got place s → n ≤ MAX_LETTER_ENTRIES
     → end_of (read_row reads n s) ≡ cond (eqb out 0) x (halted out) → 0 < out → first ≡ s → p ≡ place → m ≡ n
     → read_body bs ≡ heard p (front reads m first) [] out
 looked_stopped bs r s first n place out p m x one two few end some first-is p-is m-is =
@@ -32,7 +33,7 @@ looked_stopped bs r s first n place out p m x one two few end some first-is p-is
     ∙ rw (off, first-is, p-is, m-is) refl
 
 pub looked_through :
-    (bs r s first : List ℕ) (n place out p m : ℕ) (t : List ℕ) → read_two bs ≡ got n r → read_four r ≡ got place s → n ≤ 1024
+    (bs r s first : List ℕ) (n place out p m : ℕ) (t : List ℕ) → read_two bs ≡ got n r → read_four r ≡ got place s → n ≤ MAX_LETTER_ENTRIES
     → end_of (read_row reads n s) ≡ cond (eqb out 0) (through t) (halted out) → out ≤ 0 → first ≡ s → p ≡ place → m ≡ n
     → read_body bs ≡ number (read_two t) (read_tentative m p (front reads m first))
 looked_through bs r s first n place out p m t one two few end none first-is p-is m-is =
@@ -42,12 +43,12 @@ looked_through bs r s first n place out p m t one two few end none first-is p-is
     ∙ rw (on, first-is, p-is, m-is) refl
 
 pub looked_on :
-    (bs r second t : List ℕ) (n place m k out : ℕ) (cs : List PlainEntry) → read_two bs ≡ got m r → n + m ≤ 1024
+    (bs r second t : List ℕ) (n place m k out : ℕ) (cs : List PlainEntry) → read_two bs ≡ got m r → n + m ≤ MAX_LETTER_ENTRIES
     → end_of (read_row read_waiting m r) ≡ cond (eqb out 0) (through t) (halted out) → second ≡ r → k ≡ m → (eqb out 0 ≡ true → length t ≡ 0)
     → number (read_two bs) (read_tentative n place cs) ≡ heard place cs (front read_waiting k second) out
 looked_on bs r second t n place m k out cs one few end second_is k-is behind =
     ap (λ a. number a (read_tentative n place cs)) one
-    ∙ ap (λ b. cond b damaged (from_tentative place cs (read_row read_waiting m r))) (le-ltb 1024 (n + m) few)
+    ∙ ap (λ b. cond b damaged (from_tentative place cs (read_row read_waiting m r))) (le-ltb MAX_LETTER_ENTRIES (n + m) few)
     ∙ ap (from_tentative place cs) (ended read_waiting m out r (through t) end)
     ∙ rw (second_is, k-is) (at-end (eqb out 0) refl)
   where

@@ -2,11 +2,14 @@
 use Rattle.std.specs.Prelude.{◌≡◌, ℕ, ◌+◌, ◌-◌, ◌^◌, ◌<◌, ◌≤◌, List, ◌∷◌, ◌++◌, length, take, drop, ◌≢◌}
 use Rattle.bookings.specs.Plain.{PlainKind, book, cancel, change, supply, PlainEntry}
 use Rattle.bookings.specs.Ranges.{Each, InRange}
+use Rattle.bookings.specs.declared.limits.TheConstants.{HUTS}
 use Rattle.entry_log.specs.Waits.{PlainWaiting}
 use Rattle.digest.specs.Sha256.{digest_of}
+use Rattle.entry_log.specs.declared.waiting.TheConstants.{MAX_LETTER_ENTRIES}
 use Rattle.letters.specs.Answers.{got, short}
 use Rattle.letters.specs.Format.{encode, reads}
 use Rattle.letters.specs.Letters.{PlainLetter, encode_letter, heard, damaged, read_letter}
+use Rattle.letters.specs.declared.limits.TheConstants.{ENTRY_ROOM}
 
 -- stamps and guests are numbers of four bytes
 abbrev pub KindFits : PlainKind → Type 0
@@ -42,13 +45,13 @@ abbrev pub EntryOneForm : Type 0
 EntryOneForm =
     (bs : List ℕ) (e : PlainEntry) (rest : List ℕ) → Bytes bs → reads bs ≡ got e rest → EntryOk e × (bs ≡ encode e ++ rest)
 
--- no entry takes more than 32 bytes
+-- how many bytes an entry takes at most
 abbrev pub EntrySmall : Type 0
-EntrySmall = (e : PlainEntry) → InRange e → length (encode e) ≤ 32
+EntrySmall = (e : PlainEntry) → InRange e → length (encode e) ≤ ENTRY_ROOM
 
 pub record WaitingOk (w : PlainWaiting) : Type 0 where
   pub entry_ok : EntryOk w.entry
-  pub sixteen : length w.stood ≡ 16
+  pub sixteen : length w.stood ≡ HUTS
   pub fit : Each (λ n. n < 2 ^ 32) w.stood
 
 -- a letter that the format can hold
@@ -56,7 +59,7 @@ pub record LetterOk (l : PlainLetter) : Type 0 where
   pub place_ok : l.place < 2 ^ 32
   pub committed_ok : Each EntryOk l.committed
   pub tentative_ok : Each WaitingOk l.tentative
-  pub few : length l.committed + length l.tentative ≤ 1024
+  pub few : length l.committed + length l.tentative ≤ MAX_LETTER_ENTRIES
 
 -- reading a letter that was written gives it back, whole
 abbrev pub LetterRoundTrip : Type 0

@@ -2,6 +2,7 @@
 ghost use Rattle.std.specs.Prelude.{◌≡◌, ℕ, ◌≤◌, List, length, MatchResult};
 ghost use Rattle.letters.specs.Answers.{Answer, got, wrong};
 ghost use Rattle.letters.specs.Buffers.{Room, Written};
+ghost use Rattle.letters.specs.declared.limits.TheConstants.{WAITING_ROOM};
 
 use crate::reader::Reader;
 use crate::wrong::Wrong;
@@ -35,5 +36,5 @@ pub(crate) trait Coded: Copy {
     // How many bytes it takes.
     fn size(&self) -> usize
         ensures value { result ≡ length (encoding (plain self.now)) }
-        ensures small { result ≤ 96 };
+        ensures small { result ≤ WAITING_ROOM };
 }

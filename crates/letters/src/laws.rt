@@ -21,7 +21,7 @@ pub fn entry_one_form()
     ensures { EntryOneForm }
 {}
 
-// An entry takes 32 bytes at most.
+// An entry takes `ENTRY_ROOM` bytes at most.
 pub fn entry_small()
     ensures { EntrySmall }
 {}

@@ -4,11 +4,11 @@ ghost use Rattle.bookings.specs.Refusals.{number_of};
 ghost use Rattle.letters.specs.Items.{heard_of, heard_on};
 ghost use Rattle.letters.specs.Letters.{damaged, read_body, read_letter};
 
-use super::{LETTER, Letter, Unread};
+use super::{Letter, Unread};
 use crate::reader::Reader;
 use bookings::entry::Entry;
 use bookings::refusal::Refusal;
-use entry_log::waiting::Waiting;
+use entry_log::waiting::{MAX_LETTER_ENTRIES, Waiting};
 
 impl<'a> Unread<'a> {
     // So many values, from where another reader stands.
@@ -46,7 +46,7 @@ impl<'a> Letter<'a> {
     {
         let count = reader.two().map_err(|_| Refusal::Damaged)?;
         let place = reader.four().map_err(|_| Refusal::Damaged)?;
-        if count > LETTER {
+        if usize::from(count) > MAX_LETTER_ENTRIES {
             return Err(Refusal::Damaged);
         }
         let committed = Unread::new(count, &reader);
@@ -70,7 +70,7 @@ impl<'a> Letter<'a> {
             (λ e. (number_of e ≡ 1) × (heard_on self.entry reader.entry.rest.now ≡ damaged)) }
     {
         let count = reader.two().map_err(|_| Refusal::Damaged)?;
-        if u32::from(self.committed.count) + u32::from(count) > u32::from(LETTER) {
+        if usize::from(self.committed.count) + usize::from(count) > MAX_LETTER_ENTRIES {
             return Err(Refusal::Damaged);
         }
         let tentative = Unread::new(count, &reader);

@@ -1,4 +1,4 @@
-use Rattle.std.proofs.Common.{◌≡◌, sym, subst, rules, MatchResult}
+use Rattle.std.proofs.Common.{◌≡◌, sym, subst, rules, arith, MatchResult}
 use Rattle.bookings.specs.Refusals.{number_of}
 use Rattle.letters.specs.Items.{heard_of}
 use Rattle.letters.specs.Letters.{Heard, damaged}
@@ -12,12 +12,12 @@ returns-then-out-gt0 c =
     c.in_ok-count.count
     c.in_ok-place.place
     c.in_ok-out.out
-    c.from.result
+    c.from-2.result
     c.new-committed.result.count
     _
     (search rules)
     (search rules)
-    c.if-count-gt-LETTER.false
+    (omega (arith, c.if-from-gt-MAX_LETTER_ENTRIES.false, c.from.ensures))
     c.in_ok-out.ensures
     c.if-out-gt0.true
     c.new-committed.ensures.rest
@@ -31,12 +31,12 @@ returns c =
     c.in_ok-count.count
     c.in_ok-place.place
     c.in_ok-out.out
-    c.from.result
+    c.from-2.result
     c.new-committed.result.count
     c.pass.new.self.rest.now
     (search rules)
     (search rules)
-    c.if-count-gt-LETTER.false
+    (omega (arith, c.if-from-gt-MAX_LETTER_ENTRIES.false, c.from.ensures))
     c.in_ok-out.ensures
     c.if-out-gt0.false
     c.new-committed.ensures.rest
