@@ -1,6 +1,8 @@
 -- Whatever the bytes are, no more entries are heard than a letter can have.
 use Rattle.std.proofs.Common.{◌≡◌, ℕ, zero, suc, ◌+◌, ◌-◌, ◌≤◌, eqb, ltb, List, [], ◌∷◌, map, length, get_or, take, drop, refl, arith, length-append}
+use Rattle.digest.specs.declared.TheConstants.{DIGEST_BYTES}
 use Rattle.entry_log.specs.declared.waiting.TheConstants.{MAX_LETTER_ENTRIES}
+use Rattle.letters.specs.declared.limits.TheConstants.{EMPTY_LETTER_BYTES}
 use lib.ListN.{length-map}
 use Rattle.std.proofs.lemmas.Bool.{cond_both, ltb-false}
 use Rattle.bookings.specs.Plain.{PlainEntry}
@@ -68,9 +70,9 @@ committed-few n p bs =
 
 pub heard-few : (bs : List ℕ) → length (items_of (read_letter bs)) ≤ MAX_LETTER_ENTRIES
 heard-few bs =
-    cond_both (ltb (length bs) 41) damaged _ Few (λ _. omega arith)
+    cond_both (ltb (length bs) EMPTY_LETTER_BYTES) damaged _ Few (λ _. omega arith)
     (λ _. cond_both (eqb (get_or bs 0 0) 66) _ damaged Few
-    (λ _. cond_both (signed bs) (read_body (take (length bs - 33) (drop 1 bs))) damaged Few
-    (λ _. number-few (read_two (take (length bs - 33) (drop 1 bs))) read_placed (λ n r. number-few (read_four r) (read_committed n) (committed-few n)))
+    (λ _. cond_both (signed bs) (read_body (take (length bs - (1 + DIGEST_BYTES)) (drop 1 bs))) damaged Few
+    (λ _. number-few (read_two (take (length bs - (1 + DIGEST_BYTES)) (drop 1 bs))) read_placed (λ n r. number-few (read_four r) (read_committed n) (committed-few n)))
     (λ _. omega arith))
     (λ _. omega arith))

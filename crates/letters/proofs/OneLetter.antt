@@ -7,6 +7,7 @@ use Rattle.std.proofs.lemmas.Bool.{ltb-false, eqb-true}
 use Rattle.bookings.specs.Plain.{PlainEntry}
 use Rattle.bookings.specs.Ranges.{Each}
 use Rattle.bookings.specs.declared.limits.TheConstants.{HUTS}
+use Rattle.digest.specs.declared.TheConstants.{DIGEST_BYTES}
 use Rattle.entry_log.specs.Waits.{PlainWaiting}
 use Rattle.digest.specs.Sha256.{digest_of}
 use Rattle.entry_log.specs.declared.waiting.TheConstants.{MAX_LETTER_ENTRIES}
@@ -20,6 +21,7 @@ use Rattle.letters.proofs.HeardWhole.{number-heard, unless-damaged, if_heard, te
 use Rattle.letters.proofs.OneEntry.{exact_entry}
 use Rattle.letters.proofs.OneForm.{exact_two, exact_four}
 use Rattle.letters.proofs.RowCodes.{row_exact}
+use Rattle.letters.specs.declared.limits.TheConstants.{EMPTY_LETTER_BYTES}
 
 abbrev StampsOk : List ℕ → Type 0
 StampsOk xs = (length xs ≡ HUTS) × Each (λ n. n < 2 ^ 32) xs
@@ -82,27 +84,27 @@ bytes_take zero bs ok = tt
 bytes_take (suc n) [] ok = tt
 bytes_take (suc n) (b ∷ bs) ok = (ok.0, bytes_take n bs ok.1)
 
--- a list that is long enough: its first byte, what stands between, and its last 32
-three_parts : (bs : List ℕ) → 41 ≤ length bs → get_or bs 0 0 ∷ take (length bs - 33) (drop 1 bs) ≡ take (length bs - 32) bs
+-- a list that is long enough: its first byte, what stands between, and its last, as many as a digest has
+three_parts : (bs : List ℕ) → EMPTY_LETTER_BYTES ≤ length bs → get_or bs 0 0 ∷ take (length bs - (1 + DIGEST_BYTES)) (drop 1 bs) ≡ take (length bs - DIGEST_BYTES) bs
 three_parts [] long = absurd (omega (arith, long))
 three_parts (b ∷ bs) long =
-    let n-is : length (b ∷ bs) - 32 ≡ suc (length (b ∷ bs) - 33) = omega (arith, long) in rw n-is refl
+    let n-is : length (b ∷ bs) - DIGEST_BYTES ≡ suc (length (b ∷ bs) - (1 + DIGEST_BYTES)) = omega (arith, long) in rw n-is refl
 
 pub letter_one_form_lem : LetterOneForm
 letter_one_form_lem bs l bytes h =
     let p = l.place in
     let cs = l.committed in
     let ws = l.tentative in
-    let long = unless-damaged p cs ws (ltb (length bs) 41) _ h in
+    let long = unless-damaged p cs ws (ltb (length bs) EMPTY_LETTER_BYTES) _ h in
     let first = if_heard p cs ws (eqb (get_or bs 0 0) 66) _ long.1 in
     let sum = if_heard p cs ws (signed bs) _ first.1 in
-    let front = three_parts bs (ltb-false (length bs) 41 long.0) in
-    let body = body_formed p cs ws (take (length bs - 33) (drop 1 bs)) (bytes_take (length bs - 33) (drop 1 bs) (bytes_drop 1 bs bytes)) sum.1 in
-    let head : take (length bs - 32) bs ≡ 66 ∷ encode_body l =
-    sym front ∙ ap (λ b. b ∷ take (length bs - 33) (drop 1 bs)) (eqb-true (get_or bs 0 0) 66 first.0) ∙ ap {B = List ℕ} (λ t. 66 ∷ t) body.1 in
-    let same : digest_of (take (length bs - 32) bs) ≡ drop (length bs - 32) bs = (bytes_eq-Decides _ _).0 sum.0 in (
+    let front = three_parts bs (ltb-false (length bs) EMPTY_LETTER_BYTES long.0) in
+    let body = body_formed p cs ws (take (length bs - (1 + DIGEST_BYTES)) (drop 1 bs)) (bytes_take (length bs - (1 + DIGEST_BYTES)) (drop 1 bs) (bytes_drop 1 bs bytes)) sum.1 in
+    let head : take (length bs - DIGEST_BYTES) bs ≡ 66 ∷ encode_body l =
+    sym front ∙ ap (λ b. b ∷ take (length bs - (1 + DIGEST_BYTES)) (drop 1 bs)) (eqb-true (get_or bs 0 0) 66 first.0) ∙ ap {B = List ℕ} (λ t. 66 ∷ t) body.1 in
+    let same : digest_of (take (length bs - DIGEST_BYTES) bs) ≡ drop (length bs - DIGEST_BYTES) bs = (bytes_eq-Decides _ _).0 sum.0 in (
       body.0,
-      sym (take-append-drop (length bs - 32) bs)
-          ∙ ap (λ xs. take (length bs - 32) bs ++ xs) (sym same)
+      sym (take-append-drop (length bs - DIGEST_BYTES) bs)
+          ∙ ap (λ xs. take (length bs - DIGEST_BYTES) bs ++ xs) (sym same)
           ∙ ap (λ xs. xs ++ digest_of xs) head,
     )

@@ -3,6 +3,7 @@ use Rattle.std.specs.Prelude.{◌≡◌, ℕ, ◌+◌, ◌-◌, ◌^◌, ◌<◌
 use Rattle.bookings.specs.Plain.{PlainKind, book, cancel, change, supply, PlainEntry}
 use Rattle.bookings.specs.Ranges.{Each, InRange}
 use Rattle.bookings.specs.declared.limits.TheConstants.{HUTS}
+use Rattle.digest.specs.declared.TheConstants.{DIGEST_BYTES}
 use Rattle.entry_log.specs.Waits.{PlainWaiting}
 use Rattle.digest.specs.Sha256.{digest_of}
 use Rattle.entry_log.specs.declared.waiting.TheConstants.{MAX_LETTER_ENTRIES}
@@ -74,9 +75,9 @@ abbrev pub LetterOneForm : Type 0
 LetterOneForm =
     (bs : List ℕ) (l : PlainLetter) → Bytes bs → read_letter bs ≡ heard l.place l.committed l.tentative 0 → LetterOk l × (bs ≡ encode_letter l)
 
--- nothing is heard where the last 32 bytes are not the digest of those before them
+-- nothing is heard where the last bytes are not the digest of those before them
 abbrev pub UnsignedDamaged : Type 0
-UnsignedDamaged = (bs : List ℕ) → (digest_of (take (length bs - 32) bs) ≢ drop (length bs - 32) bs) → read_letter bs ≡ damaged
+UnsignedDamaged = (bs : List ℕ) → (digest_of (take (length bs - DIGEST_BYTES) bs) ≢ drop (length bs - DIGEST_BYTES) bs) → read_letter bs ≡ damaged
 
 -- a letter that was written and is cut short anywhere is damaged, whatever the digests are
 abbrev pub CutDamaged : Type 0

@@ -4,12 +4,14 @@ use Rattle.std.specs.List.{flat_map}
 use Rattle.std.specs.Str.{bytes_eq}
 use Rattle.bookings.specs.Plain.{PlainEntry}
 use Rattle.bookings.specs.declared.limits.TheConstants.{HUTS}
+use Rattle.digest.specs.declared.TheConstants.{DIGEST_BYTES}
 use Rattle.entry_log.specs.Waits.{PlainWaiting}
 use Rattle.digest.specs.Sha256.{digest_of}
 use Rattle.entry_log.specs.declared.waiting.TheConstants.{MAX_LETTER_ENTRIES}
 use Rattle.letters.specs.Answers.{Answer, got, short, out, after, read_times}
 use Rattle.letters.specs.Format.{encode, two, four, read_two, read_four, reads}
 use Rattle.letters.specs.Rows.{Row, whole, stopped, torn, read_row}
+use Rattle.letters.specs.declared.limits.TheConstants.{EMPTY_LETTER_BYTES}
 
 -- the place of the first committed entry, the committed ones, and the tentative ones with what stood before each
 pub record PlainLetter : Type 0 where
@@ -78,11 +80,11 @@ read_placed n bs = number (read_four bs) (read_committed n)
 abbrev pub read_body : List ℕ → Heard
 read_body bs = number (read_two bs) read_placed
 
--- the last 32 bytes are the digest of all before them
+-- the last bytes are the digest of all before them
 abbrev pub signed : List ℕ → Bool
-signed bs = bytes_eq (digest_of (take (length bs - 32) bs)) (drop (length bs - 32) bs)
+signed bs = bytes_eq (digest_of (take (length bs - DIGEST_BYTES) bs)) (drop (length bs - DIGEST_BYTES) bs)
 
 abbrev pub read_letter : List ℕ → Heard
 read_letter bs =
-    cond (nat_lt (length bs) 41) damaged
-    (cond (slice_index bs 0 == 66) (cond (signed bs) (read_body (take (length bs - 33) (drop 1 bs))) damaged) damaged)
+    cond (nat_lt (length bs) EMPTY_LETTER_BYTES) damaged
+    (cond (slice_index bs 0 == 66) (cond (signed bs) (read_body (take (length bs - (1 + DIGEST_BYTES)) (drop 1 bs))) damaged) damaged)

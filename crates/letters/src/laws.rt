@@ -41,7 +41,7 @@ pub fn letter_one_form()
     ensures { LetterOneForm }
 {}
 
-// Nothing is heard where the last 32 bytes are not the digest of those before them.
+// Nothing is heard where the last bytes are not the digest of those before them.
 pub fn unsigned_damaged()
     ensures { UnsignedDamaged }
 {}

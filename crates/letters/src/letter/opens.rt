@@ -5,9 +5,11 @@ ghost use Rattle.letters.specs.Items.{heard_of, heard_on};
 ghost use Rattle.letters.specs.Letters.{damaged, read_body, read_letter};
 
 use super::{Letter, Unread};
+use crate::limits::EMPTY_LETTER_BYTES;
 use crate::reader::Reader;
 use bookings::entry::Entry;
 use bookings::refusal::Refusal;
+use digest::DIGEST_BYTES;
 use entry_log::waiting::{MAX_LETTER_ENTRIES, Waiting};
 
 impl<'a> Unread<'a> {
@@ -28,11 +30,13 @@ impl<'a> Letter<'a> {
             (λ l. read_letter bytes.now ≡ heard_of l)
             (λ e. (number_of e ≡ 1) × (read_letter bytes.now ≡ damaged)) }
     {
-        let (signed, sum) = bytes.split_last_chunk::<32>().ok_or(Refusal::Damaged)?;
+        let (signed, sum) = bytes
+            .split_last_chunk::<DIGEST_BYTES>()
+            .ok_or(Refusal::Damaged)?;
         let [66, body @ ..] = signed else {
             return Err(Refusal::Damaged);
         };
-        if bytes.len() < 41 || digest::sha256(signed) != *sum {
+        if bytes.len() < EMPTY_LETTER_BYTES || digest::sha256(signed) != *sum {
             return Err(Refusal::Damaged);
         }
         Letter::look(Reader::new(body))
