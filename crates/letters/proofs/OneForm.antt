@@ -4,6 +4,7 @@ use Rattle.std.specs.List.{flat_map}
 use Rattle.std.proofs.lemmas.Bool.{ltb-false, leb-false}
 use Rattle.bookings.specs.Plain.{PlainMark, PlainStay}
 use Rattle.bookings.specs.Ranges.{MarkOk, StayOk, ChoiceOk, ChoicesOk, SupplyOk}
+use Rattle.bookings.specs.declared.limits.TheConstants.{HUTS, MAX_CHOICES, MAX_CHOICE_BEDS, MAX_HUT_BEDS, MAX_STAY_NIGHTS, NIGHTS}
 use Rattle.letters.specs.Answers.{Answer, got, read_times}
 use Rattle.letters.specs.Format.{two, four, encode_mark, encode_choice, encode_choices, number_of_two, number_of_four, mark_at, choice_at, ranged, read_one, read_two, read_four, read_mark, read_supply, read_choice, read_choices}
 use Rattle.letters.specs.Laws.{Bytes}
@@ -55,10 +56,10 @@ pub exact_mark : Exact [] read_mark encode_mark MarkFits
 exact_mark bs a r bytes h =
     let there = having-got 5 bs _ a r h in
     let some = unless-got (ltb (mark_at bs).stamp 1) _ a r there.1 in
-    let hut = unless-got (leb 16 (mark_at bs).hut) _ a r some.1 in
+    let hut = unless-got (leb HUTS (mark_at bs).hut) _ a r some.1 in
     block 5 bs (mark_at bs) a r encode_mark MarkFits bytes hut.1
     (split_five bs there.0 ∙ ap (λ xs. xs ++ (get_or bs 4 0 ∷ drop 5 bs)) (sym (four_bytes bs bytes)))
-    ((ltb-false (number_of_four bs) 1 some.0, leb-false 16 (get_or bs 4 0) hut.0), four_small bs bytes)
+    ((ltb-false (number_of_four bs) 1 some.0, leb-false HUTS (get_or bs 4 0) hut.0), four_small bs bytes)
 
 choice-bytes : (bs : List ℕ) → 5 ≤ length bs → Bytes bs → bs ≡ encode_choice (choice_at bs) ++ drop 5 bs
 choice-bytes (a ∷ bs) long bytes =
@@ -70,11 +71,11 @@ choice-bytes [] long bytes = absurd (omega arith)
 
 ranged-got : {A : Type 0} (s : PlainStay) (x : Answer A) (a : A) (r : List ℕ) → ranged s x ≡ got a r → StayOk s × (x ≡ got a r)
 ranged-got s x a r h =
-    let hut = unless-got (leb 16 s.hut) _ a r h in
+    let hut = unless-got (leb HUTS s.hut) _ a r h in
     let some = unless-got (ltb s.nights 1) _ a r hut.1 in
-    let few = unless-got (ltb 14 s.nights) _ a r some.1 in
-    let within = unless-got (ltb 366 (s.night + s.nights)) x a r few.1 in (
-      (leb-false 16 s.hut hut.0, ltb-false s.nights 1 some.0, ltb-false 14 s.nights few.0, ltb-false 366 (s.night + s.nights) within.0),
+    let few = unless-got (ltb MAX_STAY_NIGHTS s.nights) _ a r some.1 in
+    let within = unless-got (ltb NIGHTS (s.night + s.nights)) x a r few.1 in (
+      (leb-false HUTS s.hut hut.0, ltb-false s.nights 1 some.0, ltb-false MAX_STAY_NIGHTS s.nights few.0, ltb-false NIGHTS (s.night + s.nights) within.0),
       within.1,
     )
 
@@ -82,7 +83,7 @@ pub exact_supply : Exact [] read_supply encode_choice SupplyOk
 exact_supply bs a r bytes h =
     let there = having-got 5 bs _ a r h in
     let stay = ranged-got (choice_at bs).stay _ a r there.1 in
-    let beds : (choice_at bs).beds ≤ 255 = omega (arith, byte_at bs 4 bytes) in
+    let beds : (choice_at bs).beds ≤ MAX_HUT_BEDS = omega (arith, byte_at bs 4 bytes) in
     block 5 bs (choice_at bs) a r encode_choice SupplyOk bytes stay.1 (choice-bytes bs there.0 bytes) (stay.0, beds)
 
 exact_choice : Exact [] read_choice encode_choice ChoiceOk
@@ -90,18 +91,18 @@ exact_choice bs a r bytes h =
     let there = having-got 5 bs _ a r h in
     let stay = ranged-got (choice_at bs).stay _ a r there.1 in
     let some = unless-got (ltb (choice_at bs).beds 1) _ a r stay.1 in
-    let few = unless-got (ltb 20 (choice_at bs).beds) _ a r some.1 in
+    let few = unless-got (ltb MAX_CHOICE_BEDS (choice_at bs).beds) _ a r some.1 in
     block 5 bs (choice_at bs) a r encode_choice ChoiceOk bytes few.1 (choice-bytes bs there.0 bytes)
-    (stay.0, ltb-false (choice_at bs).beds 1 some.0, ltb-false 20 (choice_at bs).beds few.0)
+    (stay.0, ltb-false (choice_at bs).beds 1 some.0, ltb-false MAX_CHOICE_BEDS (choice_at bs).beds few.0)
 
 -- the count stands before the choices
 pub exact_choices : Exact [] read_choices encode_choices ChoicesOk
 exact_choices =
     exact_then [] read_one (λ n. n ∷ []) (λ n. n < 256) _ encode_choices ChoicesOk exact_one
-    (λ n small. exact_unless (n ∷ []) (ltb 4 n) (read_times read_choice n) encode_choices ChoicesOk (λ few. counted n (ltb-false 4 n few)))
+    (λ n small. exact_unless (n ∷ []) (ltb MAX_CHOICES n) (read_times read_choice n) encode_choices ChoicesOk (λ few. counted n (ltb-false MAX_CHOICES n few)))
   where
-    counted : (n : ℕ) → n ≤ 4 → Exact (n ∷ []) (read_times read_choice n) encode_choices ChoicesOk
+    counted : (n : ℕ) → n ≤ MAX_CHOICES → Exact (n ∷ []) (read_times read_choice n) encode_choices ChoicesOk
     counted n few bs cs r bytes h =
         let these = exact_times read_choice encode_choice ChoiceOk exact_choice n bs cs r bytes h in
         let long = these.1.0.0 in
-        (ap {B = List ℕ} (λ t. n ∷ t) these.0 ∙ ap (λ k. k ∷ (flat_map encode_choice cs ++ r)) (sym long), ((subst (λ k. k ≤ 4) (sym long) few, these.1.0.1), these.1.1))
+        (ap {B = List ℕ} (λ t. n ∷ t) these.0 ∙ ap (λ k. k ∷ (flat_map encode_choice cs ++ r)) (sym long), ((subst (λ k. k ≤ MAX_CHOICES) (sym long) few, these.1.0.1), these.1.1))

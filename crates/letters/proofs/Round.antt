@@ -1,5 +1,6 @@
 -- The parts of an entry, from the bytes up: each is read back, and found short where it is cut.
 use Rattle.std.proofs.Common.{◌≡◌, ℕ, ◌+◌, ◌*◌, ◌/◌, ◌%◌, ◌^◌, ◌<◌, ltb, List, [], ◌∷◌, ◌++◌, length, sym, refl, ap, ◌∙◌, arith, le-ltb}
+use Rattle.bookings.specs.declared.limits.TheConstants.{HUTS, MAX_CHOICES, MAX_CHOICE_BEDS, MAX_STAY_NIGHTS, NIGHTS}
 use borrow.Author.Tests.{lt-leb}
 use Rattle.std.specs.List.{flat_map}
 use Rattle.letters.specs.Answers.{got, read_times}
@@ -31,7 +32,7 @@ codes_four n h = codes_block 4 _ (four n) n refl (λ rest. rw (four_is n h) refl
 pub codes_mark : (m : PlainMark) → MarkOk m → m.stamp < 2 ^ 32 → Codes read_mark (encode_mark m) m
 codes_mark m ok fits =
     codes_block 5 _ (encode_mark m) m refl
-    (λ rest. rw (four_is m.stamp fits, le-ltb m.stamp 1 ok.0, lt-leb 16 m.hut ok.1) refl)
+    (λ rest. rw (four_is m.stamp fits, le-ltb m.stamp 1 ok.0, lt-leb HUTS m.hut ok.1) refl)
 
 codes_supply : (c : PlainChoice) → SupplyOk c → Codes read_supply (encode_choice c) c
 codes_supply c ok =
@@ -40,10 +41,10 @@ codes_supply c ok =
     (λ rest.
     rw (
       two_is c.stay.night (omega (arith, s)),
-      lt-leb 16 c.stay.hut (omega (arith, s)),
+      lt-leb HUTS c.stay.hut (omega (arith, s)),
       le-ltb c.stay.nights 1 (omega (arith, s)),
-      le-ltb 14 c.stay.nights (omega (arith, s)),
-      le-ltb 366 (c.stay.night + c.stay.nights) (omega (arith, s)),
+      le-ltb MAX_STAY_NIGHTS c.stay.nights (omega (arith, s)),
+      le-ltb NIGHTS (c.stay.night + c.stay.nights) (omega (arith, s)),
     )
     refl)
 
@@ -55,19 +56,19 @@ codes_choice c ok =
     (λ rest.
     rw (
       two_is c.stay.night (omega (arith, s)),
-      lt-leb 16 c.stay.hut (omega (arith, s)),
+      lt-leb HUTS c.stay.hut (omega (arith, s)),
       le-ltb c.stay.nights 1 (omega (arith, s)),
-      le-ltb 14 c.stay.nights (omega (arith, s)),
-      le-ltb 366 (c.stay.night + c.stay.nights) (omega (arith, s)),
+      le-ltb MAX_STAY_NIGHTS c.stay.nights (omega (arith, s)),
+      le-ltb NIGHTS (c.stay.night + c.stay.nights) (omega (arith, s)),
       le-ltb c.beds 1 (omega (arith, b)),
-      le-ltb 20 c.beds (omega (arith, b)),
+      le-ltb MAX_CHOICE_BEDS c.beds (omega (arith, b)),
     )
     refl)
 
 codes_choices : (cs : List PlainChoice) → ChoicesOk cs → Codes read_choices (encode_choices cs) cs
 codes_choices cs ok =
-    codes_then read_one (λ n r. unless (ltb 4 n) (read_times read_choice n r)) (length cs ∷ []) (flat_map encode_choice cs) (length cs) cs (codes_one (length cs))
-    (rw (le-ltb 4 (length cs) ok.0) (codes_times read_choice encode_choice ChoiceOk codes_choice cs ok.1))
+    codes_then read_one (λ n r. unless (ltb MAX_CHOICES n) (read_times read_choice n r)) (length cs ∷ []) (flat_map encode_choice cs) (length cs) cs (codes_one (length cs))
+    (rw (le-ltb MAX_CHOICES (length cs) ok.0) (codes_times read_choice encode_choice ChoiceOk codes_choice cs ok.1))
 
 codes_kind : (k : PlainKind) → KindOk k → KindFits k → Codes read_kind (encode_kind k) k
 codes_kind (book guest cs) ok fits =

@@ -2,6 +2,7 @@
 use Rattle.std.specs.Prelude.{ℕ, ◌+◌, ◌*◌, ◌/◌, ◌%◌, Bool, cond, List, [], ◌∷◌, ◌++◌, length, drop, ◌==◌, nat_le, nat_lt, slice_index}
 use Rattle.std.specs.List.{flat_map}
 use Rattle.bookings.specs.Plain.{PlainMark, PlainStay, PlainChoice, PlainKind, book, cancel, change, supply, PlainEntry}
+use Rattle.bookings.specs.declared.limits.TheConstants.{HUTS, MAX_CHOICES, MAX_CHOICE_BEDS, MAX_STAY_NIGHTS, NIGHTS}
 use Rattle.letters.specs.Answers.{Answer, got, short, out, after, read_times}
 
 abbrev pub two : ℕ → List ℕ
@@ -61,7 +62,7 @@ abbrev pub mark_at : List ℕ → PlainMark
 mark_at bs = record { stamp = number_of_four bs; hut = slice_index bs 4 }
 
 abbrev pub read_mark : List ℕ → Answer PlainMark
-read_mark bs = having 5 bs (unless (nat_lt (mark_at bs).stamp 1) (unless (nat_le 16 (mark_at bs).hut) (got (mark_at bs) (drop 5 bs))))
+read_mark bs = having 5 bs (unless (nat_lt (mark_at bs).stamp 1) (unless (nat_le HUTS (mark_at bs).hut) (got (mark_at bs) (drop 5 bs))))
 
 -- the choice that five bytes are
 abbrev pub choice_at : List ℕ → PlainChoice
@@ -69,7 +70,7 @@ choice_at bs = record { stay = record { hut = slice_index bs 0; night = number_o
 
 -- hut, nights, and the last night are in range
 abbrev pub ranged : {A : Type 0} → PlainStay → Answer A → Answer A
-ranged s a = unless (nat_le 16 s.hut) (unless (nat_lt s.nights 1) (unless (nat_lt 14 s.nights) (unless (nat_lt 366 (s.night + s.nights)) a)))
+ranged s a = unless (nat_le HUTS s.hut) (unless (nat_lt s.nights 1) (unless (nat_lt MAX_STAY_NIGHTS s.nights) (unless (nat_lt NIGHTS (s.night + s.nights)) a)))
 
 abbrev pub read_supply : List ℕ → Answer PlainChoice
 read_supply bs = having 5 bs (ranged (choice_at bs).stay (got (choice_at bs) (drop 5 bs)))
@@ -79,12 +80,12 @@ read_choice bs =
     having 5 bs
     (ranged (choice_at bs).stay
     (unless (nat_lt (choice_at bs).beds 1)
-    (unless (nat_lt 20 (choice_at bs).beds)
+    (unless (nat_lt MAX_CHOICE_BEDS (choice_at bs).beds)
     (got (choice_at bs) (drop 5 bs)))))
 
 -- how many, and these
 abbrev pub read_choices : List ℕ → Answer (List PlainChoice)
-read_choices bs = after (read_one bs) (λ n r. unless (nat_lt 4 n) (read_times read_choice n r))
+read_choices bs = after (read_one bs) (λ n r. unless (nat_lt MAX_CHOICES n) (read_times read_choice n r))
 
 abbrev pub read_book : List ℕ → Answer PlainKind
 read_book bs = after (read_four bs) (λ guest r. after (read_choices r) (λ cs s. got (book guest cs) s))

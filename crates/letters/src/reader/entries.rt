@@ -7,6 +7,7 @@ ghost use Rattle.letters.specs.Format.{read_choices, read_book, read_cancel, rea
 use super::Reader;
 use crate::wrong::Wrong;
 use bookings::entry::{Choices, Entry, Kind};
+use bookings::limits::MAX_CHOICES;
 
 // `book`, `cancel`, `change` and `beds` each read the parts of their kind and make that kind: over one function each part would be named twice.
 impl<'a> Reader<'a> {
@@ -16,7 +17,7 @@ impl<'a> Reader<'a> {
             (λ e. read_choices self.old.rest.now ≡ wrong e) }
     {
         let count = self.one()?;
-        if count > 4 {
+        if usize::from(count) > MAX_CHOICES {
             return Err(Wrong::Out);
         }
         let mut all = Choices::none().all;
