@@ -6,6 +6,9 @@ pub const HUTS: usize = 16;
 /// How many nights a hut has: a night's number is below it.
 pub const NIGHTS: usize = 366;
 
+/// The most huts that one rehearsal plays.
+pub const MAX_REHEARSAL_HUTS: usize = 4;
+
 /// The length of a list with a number for each hut and night.
 pub const PLACES: usize = HUTS * NIGHTS;
 
