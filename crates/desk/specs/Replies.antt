@@ -2,6 +2,7 @@
 use Rattle.std.specs.Prelude.{◌≡◌, ℕ, ◌-◌, ◌<◌, true, false, ◌⊎◌, length, None, Some}
 use Rattle.bookings.specs.Books.{book_of}
 use Rattle.bookings.specs.Refusals.{number_of}
+use Rattle.bookings.specs.declared.limits.TheConstants.{HUTS, NIGHTS}
 use Rattle.bookings.specs.declared.refusal.Refusal.TheVariants.{Damaged}
 use Rattle.console.specs.Checks.{Fits32, StampsFit, RequestOk}
 use Rattle.console.specs.Requests.{asked, asked_mark, raw_mark}
@@ -25,7 +26,7 @@ use Rattle.desk.specs.declared.reply.Reply.TheVariants as replies
 abbrev pub Shown : State → Command → Reply → Type 0
 Shown s commands.Have r =
     (v : Vector) × (r ≡ replies.Line (answers.Have (length s.log.committed) v)) × (v.stamps ≡ vector_of (all_of s.log))
-Shown s (commands.ShowNight h n) r = (h < 16) × (n < 366) × (r ≡ replies.Line (night_told (book_of (all_of s.log)) h n))
+Shown s (commands.ShowNight h n) r = (h < HUTS) × (n < NIGHTS) × (r ≡ replies.Line (night_told (book_of (all_of s.log)) h n))
 Shown s commands.Show r = r ≡ replies.Book
 Shown s commands.Line r = r ≡ replies.Log
 Shown s (commands.Got m) r = AskedOk (asked_mark m) × ((a : Answer) × (r ≡ replies.Line a) × (got_in s (asked_mark m) ≡ Some a))
@@ -34,7 +35,7 @@ Shown s _ r = r ≡ replies.Nothing
 
 -- by which number it is not shown, and just when
 abbrev pub Hidden : State → Command → ℕ → Type 0
-Hidden s (commands.ShowNight h n) number = (number ≡ 2) × ((h < 16) × (n < 366) → ⊥)
+Hidden s (commands.ShowNight h n) number = (number ≡ 2) × ((h < HUTS) × (n < NIGHTS) → ⊥)
 Hidden s (commands.Got m) number = GotRefused s (asked_mark m) number
 Hidden s (commands.Serve slip) number = ServeRefused s slip.all number
 Hidden s _ number = ⊥

@@ -8,6 +8,7 @@ use Rattle.journal.specs.Keeping.{Moves, Lasts}
 use Rattle.journal.specs.declared.keeper.Keeper.{Keeper}
 use Rattle.letters.specs.Items.{items_of}
 use Rattle.letters.specs.Letters.{encode_letter, read_letter}
+use Rattle.letters.specs.declared.limits.TheConstants.{LETTER_ROOM}
 use Rattle.network.specs.Taking.{letter_for, outcomes_of, plain_outcome, take_bytes, told_out}
 use Rattle.network.specs.declared.outcome.Outcome.{Outcome}
 use Rattle.network.specs.declared.unplayed.Unplayed.{Unplayed}
@@ -31,7 +32,7 @@ abbrev pub LineLeaves : (Kept → Type 0) → Command → (letter : List ℕ) �
 LineLeaves keeps (commands.Make q) bs k = keeps (synced (makes (asked q) k))
 LineLeaves keeps commands.Ink bs k = keeps (commits k) ⊎ keeps (synced (commits k))
 LineLeaves keeps (commands.Letter c v) bs k = keeps (synced k)
-LineLeaves keeps commands.Take bs k = keeps (take_bytes bs k) ⊎ ((98345 < length bs) × keeps k)
+LineLeaves keeps commands.Take bs k = keeps (take_bytes bs k) ⊎ ((LETTER_ROOM < length bs) × keeps k)
 LineLeaves keeps commands.Help bs k = keeps k
 LineLeaves keeps _ bs k = keeps k ⊎ keeps (synced k)
 
@@ -43,5 +44,5 @@ LineWrites page _ s = Unit
 -- how many entries of a letter that came were kept out, and what came of the others
 abbrev pub LineBrings : Option ℕ → List Outcome → Command → (letter : List ℕ) → Kept → Type 0
 LineBrings kept_out came commands.Take bs k =
-    length bs ≤ 98345 → (kept_out ≡ told_out (read_letter bs)) × (map plain_outcome came ≡ outcomes_of (items_of (read_letter bs)) k)
+    length bs ≤ LETTER_ROOM → (kept_out ≡ told_out (read_letter bs)) × (map plain_outcome came ≡ outcomes_of (items_of (read_letter bs)) k)
 LineBrings kept_out came _ bs k = Unit

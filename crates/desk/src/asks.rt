@@ -11,6 +11,7 @@ ghost use Rattle.desk.specs.Replies.{Shown, Hidden, Told, Untold};
 ghost use Rattle.desk.specs.declared.reply.Reply.TheVariants.{Line, Takings};
 ghost use Rattle.journal.specs.History.{Kept, synced, makes, commits};
 ghost use Rattle.letters.specs.Letters.{encode_letter};
+ghost use Rattle.letters.specs.declared.limits.TheConstants.{LETTER_ROOM};
 ghost use Rattle.network.specs.Taking.{letter_for};
 ghost use Rattle.network.specs.declared.unplayed.Unplayed.TheVariants.{Memory, Refused, Failed};
 ghost use Rattle.replica.specs.Views.{state_of};
@@ -46,7 +47,7 @@ pub fn ask<D: Desk>(
     ensures leaves { (k : Kept) → D.keeps desk.old k → MatchResult result (λ _. LineLeaves (D.keeps desk.new) command.now (bytes_of letter.entry.digits.now) k) (Rests (D.keeps desk.new) k) }
     ensures writes { OnOk result (LineWrites page.new.bytes.items command.now (D.state desk.old)) }
     ensures brings { (k : Kept) → D.keeps desk.old k → OnOk result (LineBrings (D.kept_out desk.new) (D.came desk.new) command.now (bytes_of letter.entry.digits.now) k) }
-    ensures taken { command.now ≡ commands.Take → OnOk result (length (bytes_of letter.entry.digits.now) ≤ 98345 → result ≡ Ok Takings) }
+    ensures taken { command.now ≡ commands.Take → OnOk result (length (bytes_of letter.entry.digits.now) ≤ LETTER_ROOM → result ≡ Ok Takings) }
 {
     match command {
         Command::Make { request } => make(desk, request),
@@ -136,7 +137,7 @@ fn summary(committed: u64, vector: &RawVector) -> Result<Summary, Refusal>
 
 // A letter comes. One that has more bytes than any letter is none.
 fn hear<D: Desk>(desk: &mut D, page: &mut Page, letter: Hex) -> Result<Reply, Unplayed>
-    ensures taken { OnOk result (length (bytes_of letter.entry.digits.now) ≤ 98345 → result ≡ Ok Takings) }
+    ensures taken { OnOk result (length (bytes_of letter.entry.digits.now) ≤ LETTER_ROOM → result ≡ Ok Takings) }
     ensures keeps { (k : Kept) → D.keeps desk.old k → MatchResult result (λ _. LineLeaves (D.keeps desk.new) commands.Take (bytes_of letter.entry.digits.now) k) (Rests (D.keeps desk.new) k) }
     ensures report { (k : Kept) → D.keeps desk.old k → OnOk result (LineBrings (D.kept_out desk.new) (D.came desk.new) commands.Take (bytes_of letter.entry.digits.now) k) }
     ensures answer { MatchResult result

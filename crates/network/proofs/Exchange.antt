@@ -1,4 +1,4 @@
--- Letters one after another: each brings the next 1,024 items of all that is lacking.
+-- Letters one after another: each brings the next items of all that is lacking.
 use Rattle.std.proofs.Common.{◌≡◌, ℕ, zero, suc, ◌+◌, ◌*◌, ◌<◌, eqb, ltb, List, [], ◌∷◌, ◌++◌, length, drop, sym, refl, ap, ◌∙◌, subst, inl, inr, arith, eqb→eq, lt→ltb}
 use Rattle.std.proofs.lemmas.List.{drop_all, drop-drop}
 use Rattle.bookings.specs.Plain.{PlainEntry}

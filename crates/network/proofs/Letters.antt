@@ -47,7 +47,7 @@ placed_length : (p : ℕ) (l : List PlainEntry) → length (placed_from p l) ≡
 placed_length p [] = refl
 placed_length p (e ∷ l) = ap suc (placed_length (suc p) l)
 
--- a letter is the first 1,024 items of all
+-- a letter is the first items of all, as many as it can have
 pub letter-first : (count : ℕ) (has : List ℕ) (k : Kept) → words_for count has k ≡ take MAX_LETTER_ENTRIES (all_for count has k)
 unfolding parcel_of
 letter-first count has k = bounded MAX_LETTER_ENTRIES (drop count (committed_in k)) (missing has (committed_in k) (tentative_in k))

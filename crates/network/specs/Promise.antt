@@ -187,7 +187,7 @@ abbrev pub exchanges : ℕ → Net → ℕ → ℕ → Net
 exchanges zero n i j = n
 exchanges (suc count) n i j = exchanges count (exchange n i j) i j
 
--- LAW: each letter brings the next 1,024 items of all that is lacking; so of k items ⌈k / 1,024⌉ letters, one after another, bring all.
+-- LAW: each letter brings the next MAX_LETTER_ENTRIES items of all that is lacking; so of k items ⌈k / MAX_LETTER_ENTRIES⌉ letters, one after another, bring all.
 abbrev pub LettersNeeded : List Event → Type 0
 LettersNeeded es =
     makings es < capacity → (i j : ℕ) → i < huts → j < huts → (count : ℕ)
