@@ -7,6 +7,7 @@ use Rattle.bookings.specs.Plain.{PlainChoice}
 use Rattle.bookings.specs.Ranges.{StayOk}
 use Rattle.bookings.specs.Undone.{Rest, reinstated}
 use Rattle.bookings.proofs.Over.{over_cases, stay_fits}
+use Rattle.bookings.specs.declared.limits.TheConstants.{PLACES}
 
 pub reinstate_some :
     (p : ℕ) (r : Rest) (g : PlainGrant) (booked : List ℕ) (outcomes : List PlainOutcome) → Some g ≡ once_held_by (get_or r.outcomes p nothing)
@@ -15,7 +16,7 @@ pub reinstate_some :
 reinstate_some p r g booked outcomes some booked-is outcomes-is = rw (← some, booked-is, outcomes-is) refl
 
 -- where beds are given back, no night has more booked than before
-pub few_release : (booked : List ℕ) (c : PlainChoice) → length booked ≡ 5856 → StayOk c.stay → Few booked → Few (release booked c)
+pub few_release : (booked : List ℕ) (c : PlainChoice) → length booked ≡ PLACES → StayOk c.stay → Few booked → Few (release booked c)
 few_release booked c long ok few k =
     let before = few k in
     ⊎_elim (λ h. omega (arith, h.1)) (λ h. omega (arith, h.1))

@@ -16,6 +16,7 @@ use Rattle.bookings.proofs.Sound.{Sound, standing-stay, standing-share}
 use Rattle.bookings.proofs.Theorems.{came_standing}
 use Rattle.bookings.proofs.Tally.{release-share}
 use Rattle.bookings.proofs.Words.{covers-inside}
+use Rattle.bookings.specs.declared.limits.TheConstants.{HUTS, NIGHTS}
 
 -- a mark that is found is found there when more marks follow
 more_step : (m n : PlainMark) (i p : ℕ) (ms : List PlainMark) (b : Bool)
@@ -157,13 +158,13 @@ cancel_lasts_lem front back c m g is stands came =
     let at = stands_found m 0 stands.0 (book_of front).marks stands.1 stands.2 in lasts_at front back c m g at.0 is at.1 came
 
 -- the beds of a choice on a night are its share there
-pub share_is : (c : PlainChoice) (hut night : ℕ) → StayOk c.stay → night < 366 → share (place_of hut night) c ≡ beds_of c hut night
+pub share_is : (c : PlainChoice) (hut night : ℕ) → StayOk c.stay → night < NIGHTS → share (place_of hut night) c ≡ beds_of c hut night
 share_is c hut night ok in-year = rw (covers-inside c.stay hut night ok in-year) refl
 
 abbrev Frees : PlainBook → PlainMark → PlainGrant → PlainBook → Type 0
 Frees was m g now =
     (now.beds ≡ was.beds)
-    × ((hut night : ℕ) → hut < 16 → night < 366 → booked_on now hut night + beds_of g.choice hut night ≡ booked_on was hut night)
+    × ((hut night : ℕ) → hut < HUTS → night < NIGHTS → booked_on now hut night + beds_of g.choice hut night ≡ booked_on was hut night)
     × CameTo now m (cancelled g)
 
 pub cancel_frees_lem : CancelFrees

@@ -1,5 +1,6 @@
 -- What is left at each place where some numbers of a list are replaced, and how that is taken back.
 use Rattle.std.proofs.Common.{◌≡◌, ℕ, zero, suc, ◌+◌, ◌-◌, ◌<◌, ◌≤◌, max, true, false, ◌≢◌, ◌⊎◌, List, [], ◌∷◌, ◌++◌, length, get_or, take, drop, set, sym, refl, ap, ◌∙◌, subst, inl, inr, ⊎_elim, add-one, append_assoc, arith, length-drop, length-set, length-take-le, take_all}
+use Rattle.bookings.specs.declared.limits.TheConstants.{PLACES}
 use borrow.Rule.Slice.PartMut.{mid_of, put_mid}
 use Rattle.std.proofs.Math.Seq.{drop-cons}
 use Rattle.std.proofs.lemmas.List.{get_or-set_same, get_or-set_other, get_or-take, get_or-drop, set-append_right, take-append-drop, take_more, same_lists, get_or_default}
@@ -157,10 +158,10 @@ part_raised w xs bs ys zs s t k n m from size all fits ys_are is =
     (λ j h x. ap (max w) (rw ys_are (get_or-take n (drop t bs) j 0 h) ∙ get_or-drop t bs j 0))
 
 -- beds that are booked and given back, and the other way round
-pub stay_fits : (s : PlainStay) → StayOk s → first s + s.nights ≤ 5856
+pub stay_fits : (s : PlainStay) → StayOk s → first s + s.nights ≤ PLACES
 stay_fits s ok = omega arith
 
-module _ (booked : List ℕ) (c : PlainChoice) (long : length booked ≡ 5856) (ok : StayOk c.stay) where
+module _ (booked : List ℕ) (c : PlainChoice) (long : length booked ≡ PLACES) (ok : StayOk c.stay) where
   fits : first c.stay + c.stay.nights ≤ length booked
   fits = omega (arith, stay_fits c.stay ok)
 

@@ -1,5 +1,6 @@
 -- What the code holds is in range.
 use Rattle.std.proofs.Common.{◌≤◌, length, arith, length-take}
+use Rattle.bookings.specs.declared.limits.TheConstants.{MAX_CHOICES}
 use lib.ListN.{length-map}
 use Rattle.bookings.specs.declared.entry.Mark.{Mark}
 use Rattle.bookings.specs.declared.entry.Stay.{Stay}
@@ -23,7 +24,7 @@ choice_ok c = (stay_ok c.stay, c.beds_ok.0, c.beds_ok.1)
 
 choices_ok : (cs : Choices) → ChoicesOk (plain_choices cs)
 choices_ok cs =
-    let few : length (plain_choices cs) ≤ 4 = simp (length-map, length-take) (omega (arith, cs.few)) in
+    let few : length (plain_choices cs) ≤ MAX_CHOICES = simp (length-map, length-take) (omega (arith, cs.few)) in
     (few, each_map plain_choice ChoiceOk (listed cs) choice_ok)
 
 kind_ok : (k : Kind) → KindOk (plain_kind k)

@@ -1,5 +1,6 @@
 -- Books that entries in range make: they are sound, and go on being made so.
 use Rattle.std.proofs.Common.{◌≡◌, ℕ, ◌+◌, ◌<◌, ◌≤◌, List, [], ◌∷◌, ◌++◌, length, get_or, fold, sym, refl, ap, ◌∙◌, subst, ⊎_elim, arith}
+use Rattle.bookings.specs.declared.limits.TheConstants.{INITIAL_BEDS, PLACES}
 use mathlib.Core.Logic.{∥∥₁_elim, ∥∥₁_map}
 use denote.Struct.Props.{props}
 use lib.ListN.{length-replicate}
@@ -19,25 +20,25 @@ use Rattle.bookings.proofs.Sound.{SoundBook, HeldOk, does_sound, standing-share}
 use Rattle.bookings.proofs.Tally.{share_within}
 use Rattle.bookings.proofs.Undoing.{undone-does}
 
-pub length-row : (n : ℕ) → length (row n) ≡ 5856
+pub length-row : (n : ℕ) → length (row n) ≡ PLACES
 unfolding row
-length-row n = length-replicate 5856 n
+length-row n = length-replicate PLACES n
 
-row_at : (n k : ℕ) → k < 5856 → get_or (row n) k 0 ≡ n
+row_at : (n k : ℕ) → k < PLACES → get_or (row n) k 0 ≡ n
 unfolding row
-row_at n k h = get_or-replicate 5856 k n 0 h
+row_at n k h = get_or-replicate PLACES k n 0 h
 
-row_past : (n k : ℕ) → 5856 ≤ k → get_or (row n) k 0 ≡ 0
+row_past : (n k : ℕ) → PLACES ≤ k → get_or (row n) k 0 ≡ 0
 row_past n k h = get_or_past (row n) k 0 (omega (arith, length-row n))
 
 empty_sound : SoundBook empty_book
 empty_sound = (
   record {
-    long_beds = length-row 20;
+    long_beds = length-row INITIAL_BEDS;
     long_booked = length-row 0;
-    within = λ k. ⊎_elim (λ h. omega (arith, row_at 0 k h)) (λ h. omega (arith, row_past 0 k h)) (cases_lt k 5856);
-    few = λ k. ⊎_elim (λ h. omega (arith, row_at 20 k h)) (λ h. omega (arith, row_past 20 k h)) (cases_lt k 5856);
-    tallies = λ k. ⊎_elim (λ h. omega (arith, row_at 0 k h)) (λ h. omega (arith, row_past 0 k h)) (cases_lt k 5856);
+    within = λ k. ⊎_elim (λ h. omega (arith, row_at 0 k h)) (λ h. omega (arith, row_past 0 k h)) (cases_lt k PLACES);
+    few = λ k. ⊎_elim (λ h. omega (arith, row_at INITIAL_BEDS k h)) (λ h. omega (arith, row_past INITIAL_BEDS k h)) (cases_lt k PLACES);
+    tallies = λ k. ⊎_elim (λ h. omega (arith, row_at 0 k h)) (λ h. omega (arith, row_past 0 k h)) (cases_lt k PLACES);
     stays = tt;
   },
   refl,

@@ -12,6 +12,7 @@ use Rattle.bookings.proofs.Fit.{first-is_free, first_each}
 use Rattle.bookings.proofs.Find.{standing-holds}
 use Rattle.bookings.proofs.Over.{length_over, over_cases, stay_fits}
 use Rattle.bookings.proofs.Tally.{held_push, held_set, held_member, holds_within, claim-share, release-share, free-share}
+use Rattle.bookings.specs.declared.limits.TheConstants.{MAX_HUT_BEDS, PLACES}
 
 -- a choice that is held is of nights that there are
 abbrev pub HeldOk : PlainOutcome → Type 0
@@ -23,10 +24,10 @@ HeldOk (freed p) = Unit {0}
 HeldOk (resized s were) = Unit {0}
 
 pub record Sound (beds booked : List ℕ) (os : List PlainOutcome) : Type 0 where
-  pub long_beds : length beds ≡ 5856
-  pub long_booked : length booked ≡ 5856
+  pub long_beds : length beds ≡ PLACES
+  pub long_booked : length booked ≡ PLACES
   pub within : (k : ℕ) → get_or booked k 0 ≤ get_or beds k 0
-  pub few : (k : ℕ) → get_or beds k 0 ≤ 255
+  pub few : (k : ℕ) → get_or beds k 0 ≤ MAX_HUT_BEDS
   pub tallies : (k : ℕ) → get_or booked k 0 ≡ held_on k os
   pub stays : Each HeldOk os
 
@@ -86,7 +87,7 @@ release_sound {beds} {booked} {os} p g o s is none ok =
 
 -- a change of beds
 pub resize_sound :
-    {beds booked : List ℕ} {os : List PlainOutcome} (c : PlainChoice) → Sound beds booked os → StayOk c.stay → c.beds ≤ 255
+    {beds booked : List ℕ} {os : List PlainOutcome} (c : PlainChoice) → Sound beds booked os → StayOk c.stay → c.beds ≤ MAX_HUT_BEDS
     → Sound (resize beds booked c) booked os
 resize_sound {beds} {booked} {os} c s ok low =
     let at = λ (k : ℕ). over_cases (λ k _. max c.beds (get_or booked k 0)) beds (first c.stay) c.stay.nights k (omega (arith, stay_fits c.stay ok, s.long_beds)) in

@@ -9,6 +9,7 @@ use Rattle.bookings.specs.Plain.{PlainChoice}
 use Rattle.bookings.specs.Ranges.{StayOk}
 use Rattle.bookings.proofs.Fit.{free-at}
 use Rattle.bookings.proofs.Over.{over_cases, stay_fits}
+use Rattle.bookings.specs.declared.limits.TheConstants.{PLACES}
 
 pub held_push : (k : ℕ) (os : List PlainOutcome) (o : PlainOutcome) → held_on k (os ++ o ∷ []) ≡ held_on k os + held_at k o
 held_push k [] o = omega arith
@@ -37,7 +38,7 @@ share-inside k c is = rw is refl
 pub share_outside : (k : ℕ) (c : PlainChoice) → inside (first c.stay) c.stay.nights k ≡ false → share k c ≡ 0
 share_outside k c is = rw is refl
 
-module _ (booked : List ℕ) (c : PlainChoice) (long : length booked ≡ 5856) (ok : StayOk c.stay) (k : ℕ) where
+module _ (booked : List ℕ) (c : PlainChoice) (long : length booked ≡ PLACES) (ok : StayOk c.stay) (k : ℕ) where
   pub claim-share : get_or (claim booked c) k 0 ≡ get_or booked k 0 + share k c
   claim-share =
       ⊎_elim (λ h. omega (arith, h.1, share-inside k c h.0)) (λ h. omega (arith, h.1, share_outside k c h.0))

@@ -12,6 +12,7 @@ use Rattle.bookings.proofs.Fit.{first_each}
 use Rattle.bookings.proofs.Over.{over_back, length_over, stay_fits, claim_after_release, release_after_claim}
 use Rattle.bookings.proofs.Sound.{Sound, SoundBook, standing-stay, standing-share}
 use Rattle.bookings.proofs.Tally.{holds_within, share_within}
+use Rattle.bookings.specs.declared.limits.TheConstants.{PLACES}
 
 abbrev rest_of : PlainBook → Rest
 rest_of b = record { beds = b.beds; booked = b.booked; outcomes = b.outcomes }
@@ -46,7 +47,7 @@ reinstated_back beds booked os p g o s is once =
     ∙ ap (λ l. record { beds = beds; booked = booked; outcomes = l }) whole
 
 -- beds that were changed are put back
-restored_back : (beds booked : List ℕ) (c : PlainChoice) → length beds ≡ 5856 → StayOk c.stay → restore (resize beds booked c) c.stay (numbers_on beds c.stay) ≡ beds
+restored_back : (beds booked : List ℕ) (c : PlainChoice) → length beds ≡ PLACES → StayOk c.stay → restore (resize beds booked c) c.stay (numbers_on beds c.stay) ≡ beds
 restored_back beds booked c long ok =
     over_back (λ k _. max c.beds (get_or booked k 0)) (λ k _. get_or (numbers_on beds c.stay) (k - first c.stay) 0) beds (first c.stay) c.stay.nights (omega (arith, stay_fits c.stay ok))
     (λ k from upto.

@@ -10,6 +10,7 @@ use Rattle.bookings.specs.Plain.{PlainStay, PlainChoice}
 use Rattle.bookings.specs.Ranges.{StayOk, Each}
 use Rattle.bookings.proofs.Fit.{free-at, free_from}
 use Rattle.bookings.proofs.Sound.{HeldOk}
+use Rattle.bookings.specs.declared.limits.TheConstants.{NIGHTS}
 
 same_leb : (a b c d : ℕ) → (a ≤ b → c ≤ d) → (b < a → d < c) → leb a b ≡ leb c d
 same_leb a b c d up down = ⊎_elim (λ h. lt-leb a b h ∙ sym (lt-leb c d (down h))) (λ h. le-leb a b h ∙ sym (le-leb c d (up h))) (cases_lt b a)
@@ -18,7 +19,7 @@ same_ltb : (a b c d : ℕ) → (a < b → c < d) → (b ≤ a → d ≤ c) → l
 same_ltb a b c d up down = ⊎_elim (λ h. lt-ltb a b h ∙ sym (lt-ltb c d (up h))) (λ h. le-ltb a b h ∙ sym (le-ltb c d (down h))) (cases_lt a b)
 
 -- a stay's places are those of its nights
-pub covers-inside : (s : PlainStay) (hut night : ℕ) → StayOk s → night < 366 → inside (first s) s.nights (place_of hut night) ≡ covers s hut night
+pub covers-inside : (s : PlainStay) (hut night : ℕ) → StayOk s → night < NIGHTS → inside (first s) s.nights (place_of hut night) ≡ covers s hut night
 covers-inside s hut night ok in-year =
     ⊎_elim
     (λ same.
@@ -33,7 +34,7 @@ covers-inside s hut night ok in-year =
     apart)
     (cases_order hut s.hut)
 
-held_there : (o : PlainOutcome) (hut night : ℕ) → HeldOk o → night < 366 → held_at (place_of hut night) o ≡ beds_held_by (held_by o) hut night
+held_there : (o : PlainOutcome) (hut night : ℕ) → HeldOk o → night < NIGHTS → held_at (place_of hut night) o ≡ beds_held_by (held_by o) hut night
 held_there (holds g) hut night ok in-year = rw (covers-inside g.choice.stay hut night ok in-year) refl
 held_there nothing hut night ok in-year = refl
 held_there (cancelled g) hut night ok in-year = refl
@@ -41,7 +42,7 @@ held_there (changed g m) hut night ok in-year = refl
 held_there (freed p) hut night ok in-year = refl
 held_there (resized s were) hut night ok in-year = refl
 
-pub all_held : (os : List PlainOutcome) (hut night : ℕ) → Each HeldOk os → night < 366 → held_on (place_of hut night) os ≡ beds_held os hut night
+pub all_held : (os : List PlainOutcome) (hut night : ℕ) → Each HeldOk os → night < NIGHTS → held_on (place_of hut night) os ≡ beds_held os hut night
 all_held [] hut night ok in-year = refl
 all_held (o ∷ os) hut night ok in-year =
     let here = held_there o hut night ok.0 in-year in

@@ -3,6 +3,7 @@ use Rattle.std.specs.Prelude.{ℕ, suc, Bool, cond, ◌&&◌, List, [], ◌∷�
 use Rattle.bookings.specs.Nights.{is_free, claim, release, resize, numbers_on}
 use Rattle.bookings.specs.Outcomes.{PlainGrant, PlainOutcome, holds, nothing, cancelled, changed, freed, resized, held_by}
 use Rattle.bookings.specs.Plain.{PlainMark, PlainChoice, PlainKind, book, cancel, change, supply, PlainEntry}
+use Rattle.bookings.specs.declared.limits.TheConstants.{INITIAL_BEDS, PLACES}
 
 -- beds and booked for each hut and night; for each entry that was done, its mark and what came of it
 pub record PlainBook : Type 0 where
@@ -13,10 +14,10 @@ pub record PlainBook : Type 0 where
 
 -- the same number for each hut and night
 unfoldable pub row : ℕ → List ℕ
-row n = replicate 5856 n
+row n = replicate PLACES n
 
 abbrev pub empty_book : PlainBook
-empty_book = record { beds = row 20; booked = row 0; marks = []; outcomes = [] }
+empty_book = record { beds = row INITIAL_BEDS; booked = row 0; marks = []; outcomes = [] }
 
 -- the first of some choices that is free, where the first of them has the number i
 abbrev pub first_free : List ℕ → List ℕ → Option ℕ → ℕ → List PlainChoice → Option PlainGrant

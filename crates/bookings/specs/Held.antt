@@ -3,6 +3,7 @@ use Rattle.std.specs.Prelude.{◌≡◌, ℕ, ◌+◌, ◌<◌, ◌≤◌, cond,
 use Rattle.bookings.specs.Nights.{first, inside}
 use Rattle.bookings.specs.Plain.{PlainChoice}
 use Rattle.bookings.specs.Outcomes.{PlainGrant, PlainOutcome, holds, nothing, cancelled, changed, freed, resized}
+use Rattle.bookings.specs.declared.limits.TheConstants.{MAX_HUT_BEDS}
 
 -- the beds of a choice at a place
 abbrev pub share : ℕ → PlainChoice → ℕ
@@ -30,4 +31,4 @@ Covered booked os =
 
 -- no night has more booked than a hut can have beds
 abbrev pub Few : List ℕ → Type 0
-Few booked = (k : ℕ) → slice_index booked k ≤ 255
+Few booked = (k : ℕ) → slice_index booked k ≤ MAX_HUT_BEDS

@@ -6,6 +6,7 @@ use Rattle.bookings.specs.Outcomes.{PlainGrant, PlainOutcome, holds, nothing, ca
 use Rattle.bookings.specs.Plain.{PlainMark, PlainStay, PlainChoice, PlainKind, book, cancel, change, supply, PlainEntry}
 use Rattle.bookings.specs.Ranges.{Each, InRange, ChoicesOk, SupplyOk}
 use Rattle.bookings.specs.Undone.{undone}
+use Rattle.bookings.specs.declared.limits.TheConstants.{HUTS, NIGHTS}
 
 -- how many beds a hut has on a night, and how many of them are booked
 abbrev pub beds_on : PlainBook → ℕ → ℕ → ℕ
@@ -71,7 +72,7 @@ NeverOverbooked = (es : List PlainEntry) → Each InRange es → (hut night : �
 -- LAW: booked on a night is the sum of the beds that bookings hold there.
 abbrev pub BookedIsHeld : Type 0
 BookedIsHeld =
-    (es : List PlainEntry) → Each InRange es → (hut night : ℕ) → hut < 16 → night < 366
+    (es : List PlainEntry) → Each InRange es → (hut night : ℕ) → hut < HUTS → night < NIGHTS
     → booked_on (book_of es) hut night ≡ beds_held (book_of es).outcomes hut night
 
 -- LAW: a booking gets the first of its choices that is free, and nothing only where none is.
@@ -105,7 +106,7 @@ UnknownMarkDoesNothing = (es : List PlainEntry) (e : PlainEntry) (m : PlainMark)
 -- LAW: a change of beds sets those of its nights, but to no fewer than are booked, and leaves all others.
 abbrev pub BedsAreSet : Type 0
 BedsAreSet =
-    (es : List PlainEntry) (m : PlainMark) (c : PlainChoice) → Each InRange es → SupplyOk c → (hut night : ℕ) → hut < 16 → night < 366
+    (es : List PlainEntry) (m : PlainMark) (c : PlainChoice) → Each InRange es → SupplyOk c → (hut night : ℕ) → hut < HUTS → night < NIGHTS
     → beds_on (does (record { mark = m; kind = supply c }) (book_of es)) hut night
     ≡ cond (covers c.stay hut night) (max c.beds (booked_on (book_of es) hut night)) (beds_on (book_of es) hut night)
 
@@ -114,7 +115,7 @@ abbrev pub CancelFrees : Type 0
 CancelFrees =
     (es : List PlainEntry) (own m : PlainMark) (g : PlainGrant) → Each InRange es → CameTo (book_of es) m (holds g)
     → ((does (record { mark = own; kind = cancel m }) (book_of es)).beds ≡ (book_of es).beds)
-    × ((hut night : ℕ) → hut < 16 → night < 366
+    × ((hut night : ℕ) → hut < HUTS → night < NIGHTS
     → booked_on (does (record { mark = own; kind = cancel m }) (book_of es)) hut night + beds_of g.choice hut night ≡ booked_on (book_of es) hut night)
     × CameTo (does (record { mark = own; kind = cancel m }) (book_of es)) m (cancelled g)
 

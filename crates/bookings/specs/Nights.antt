@@ -1,10 +1,11 @@
--- The nights of all huts as places of a list of 16 × 366 numbers, hut by hut, and which choices are free.
+-- The nights of all huts as places of a list of `PLACES` numbers, hut by hut, and which choices are free.
 use Rattle.std.specs.Prelude.{ℕ, zero, suc, ◌+◌, ◌-◌, ◌*◌, max, Bool, true, false, cond, ◌&&◌, List, take, drop, nat_le, nat_lt, slice_index, slice_set}
 use Rattle.bookings.specs.Plain.{PlainStay, PlainChoice}
+use Rattle.bookings.specs.declared.limits.TheConstants.{NIGHTS}
 
 -- the place of a hut's night
 abbrev pub place_of : ℕ → ℕ → ℕ
-place_of hut night = hut * 366 + night
+place_of hut night = hut * NIGHTS + night
 
 abbrev pub first : PlainStay → ℕ
 first s = place_of s.hut s.night

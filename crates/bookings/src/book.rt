@@ -3,6 +3,7 @@ ghost use Rattle.std.specs.Prelude.{◌≤◌, map, vec_capacity};
 ghost use Rattle.bookings.specs.Outcomes.{plain_outcome};
 ghost use Rattle.bookings.specs.Plain.{plain_mark};
 ghost use Rattle.bookings.specs.Reached.{Reached};
+ghost use Rattle.bookings.specs.declared.book.TheConstants.{CAPACITY};
 
 use crate::entry::Mark;
 use crate::outcome::Outcome;
@@ -10,7 +11,7 @@ use crate::outcome::Outcome;
 mod reads;
 mod steps;
 
-// How many entries a replica can have.
+/// How many entries a replica can have.
 pub const CAPACITY: usize = 65536;
 
 // Beds and booked for each hut and night, and for each entry in the order of doing its mark and what came of it.
@@ -22,7 +23,7 @@ pub struct Book {
     marks: Vec<Mark>,
     outcomes: Vec<Outcome>,
     ghost reached: { Reached (record { beds = beds.items; booked = booked.items; marks = map plain_mark marks.items; outcomes = map plain_outcome outcomes.items }) },
-    ghost room: { (65536 ≤ vec_capacity marks) × (65536 ≤ vec_capacity outcomes) },
+    ghost room: { (CAPACITY ≤ vec_capacity marks) × (CAPACITY ≤ vec_capacity outcomes) },
 }
 
 // How many beds a hut has on a night, and how many of them are booked.

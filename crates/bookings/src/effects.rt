@@ -5,6 +5,7 @@ ghost use Rattle.bookings.specs.Books.{PlainBook, Effect, first_free, claimed, s
 ghost use Rattle.bookings.specs.Held.{Covered, Few};
 ghost use Rattle.bookings.specs.Outcomes.{plain_grant, plain_outcome};
 ghost use Rattle.bookings.specs.Plain.{plain_mark, plain_choices, plain_kind};
+ghost use Rattle.bookings.specs.declared.limits.TheConstants.{PLACES};
 
 use crate::entry::{Choices, Entry, Kind, Mark};
 use crate::free::first_free;
@@ -21,7 +22,7 @@ fn grant_first(
     choices: &Choices,
     replaces: Option<usize>,
 ) -> Option<Grant>
-    requires { (length beds.now ≡ 5856) × (length booked.old ≡ 5856) }
+    requires { (length beds.now ≡ PLACES) × (length booked.old ≡ PLACES) }
     ensures value { option_map plain_grant result ≡ first_free beds.now booked.old replaces 0 (plain_choices choices.now) }
     ensures after { booked.new ≡ claimed booked.old (option_map plain_grant result) }
 {
@@ -31,7 +32,7 @@ fn grant_first(
 }
 
 fn cancel(booked: &mut [u32], marks: &[Mark], outcomes: &mut [Outcome], mark: &Mark) -> Outcome
-    requires long { length booked.old ≡ 5856 }
+    requires long { length booked.old ≡ PLACES }
     requires paired { length marks.now ≡ length outcomes.old }
     requires covered { Covered booked.old (map plain_outcome outcomes.old) }
     ensures { (beds : List ℕ) →
@@ -57,8 +58,8 @@ fn change(
     mark: &Mark,
     choices: &Choices,
 ) -> Outcome
-    requires long_beds { length beds.now ≡ 5856 }
-    requires long { length booked.old ≡ 5856 }
+    requires long_beds { length beds.now ≡ PLACES }
+    requires long { length booked.old ≡ PLACES }
     requires paired { length marks.now ≡ length outcomes.old }
     requires covered { Covered booked.old (map plain_outcome outcomes.old) }
     requires few { Few booked.old }
@@ -88,8 +89,8 @@ pub(crate) fn carry_out(
     outcomes: &mut [Outcome],
     entry: &Entry,
 ) -> Outcome
-    requires long_beds { length beds.old ≡ 5856 }
-    requires long { length booked.old ≡ 5856 }
+    requires long_beds { length beds.old ≡ PLACES }
+    requires long { length booked.old ≡ PLACES }
     requires paired { length marks.now ≡ length outcomes.old }
     requires covered { Covered booked.old (map plain_outcome outcomes.old) }
     requires few { Few booked.old }

@@ -1,5 +1,8 @@
 // What an entry is. The ghost fields are its ranges, so that a value of these types is always in range.
 ghost use Rattle.std.specs.Prelude.{◌≡◌, ◌+◌, ◌<◌, ◌≤◌, length};
+ghost use Rattle.bookings.specs.declared.limits.TheConstants.{HUTS, MAX_CHOICES, MAX_CHOICE_BEDS, MAX_HUT_BEDS, MAX_STAY_NIGHTS, NIGHTS};
+
+use crate::limits::MAX_CHOICES;
 
 mod checks;
 mod same;
@@ -11,7 +14,7 @@ pub struct Mark {
     pub stamp: u32,
     pub hut: u8,
     ghost stamp_ok: { 1 ≤ stamp },
-    ghost hut_ok: { hut < 16 },
+    ghost hut_ok: { hut < HUTS },
 }
 
 // Some nights of a hut, one after another.
@@ -20,9 +23,9 @@ pub struct Stay {
     pub hut: u8,
     pub night: u16,
     pub nights: u8,
-    ghost hut_ok: { hut < 16 },
-    ghost nights_ok: { (1 ≤ nights) × (nights ≤ 14) },
-    ghost within: { night + nights ≤ 366 },
+    ghost hut_ok: { hut < HUTS },
+    ghost nights_ok: { (1 ≤ nights) × (nights ≤ MAX_STAY_NIGHTS) },
+    ghost within: { night + nights ≤ NIGHTS },
 }
 
 // Beds wanted for a stay.
@@ -30,7 +33,7 @@ pub struct Stay {
 pub struct Choice {
     pub stay: Stay,
     pub beds: u8,
-    ghost beds_ok: { (1 ≤ beds) × (beds ≤ 20) },
+    ghost beds_ok: { (1 ≤ beds) × (beds ≤ MAX_CHOICE_BEDS) },
 }
 
 // Up to four choices, the one that is wanted most first: the first `count` of the array, since an entry is copied, and takes no memory.
@@ -38,9 +41,9 @@ pub struct Choice {
 #[derive(Clone, Copy)]
 pub struct Choices {
     pub count: u8,
-    pub all: [Choice; 4],
-    ghost few: { count ≤ 4 },
-    ghost four: { length all ≡ 4 },
+    pub all: [Choice; MAX_CHOICES],
+    ghost few: { count ≤ MAX_CHOICES },
+    ghost four: { length all ≡ MAX_CHOICES },
 }
 
 // How many beds a hut has on some nights. A type beside `Choice`, so that none passes for the other.
@@ -48,7 +51,7 @@ pub struct Choices {
 pub struct Supply {
     pub stay: Stay,
     pub beds: u8,
-    ghost beds_ok: { beds ≤ 255 },
+    ghost beds_ok: { beds ≤ MAX_HUT_BEDS },
 }
 
 #[derive(Clone, Copy, PartialEq, Eq)]

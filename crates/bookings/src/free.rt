@@ -4,6 +4,7 @@ ghost use Rattle.std.specs.Option.{option_map};
 ghost use Rattle.bookings.specs.Books.{first_free};
 ghost use Rattle.bookings.specs.Outcomes.{plain_grant};
 ghost use Rattle.bookings.specs.Plain.{plain_choices};
+ghost use Rattle.bookings.specs.declared.limits.TheConstants.{PLACES};
 
 use crate::entry::Choices;
 use crate::nights::nights_of;
@@ -16,7 +17,7 @@ pub(crate) fn first_free(
     choices: &Choices,
     replaces: Option<usize>,
 ) -> Option<Grant>
-    requires { (length beds.now ≡ 5856) × (length booked.now ≡ 5856) }
+    requires { (length beds.now ≡ PLACES) × (length booked.now ≡ PLACES) }
     ensures { option_map plain_grant result ≡ first_free beds.now booked.now replaces 0 (plain_choices choices.now) }
 {
     let listed = choices.as_slice();

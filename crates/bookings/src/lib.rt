@@ -6,6 +6,7 @@ mod effects;
 pub mod entry;
 mod free;
 pub mod laws;
+pub mod limits;
 mod nights;
 pub mod outcome;
 pub mod refusal;

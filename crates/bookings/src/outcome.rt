@@ -4,6 +4,7 @@ ghost use Rattle.std.specs.Option.{option_map};
 ghost use Rattle.bookings.specs.Outcomes.{plain_grant, plain_outcome, held_by, once_held_by};
 
 use crate::entry::{Choice, Mark, Stay};
+use crate::limits::MAX_STAY_NIGHTS;
 
 // The choice that a booking has got: which of its choices, counted from 0, and for a change the place of the booking that it changed.
 #[derive(Clone, Copy)]
@@ -26,7 +27,7 @@ pub enum Outcome {
     // A cancellation, with the place of the booking that it freed.
     Freed(Option<usize>),
     // A change of beds, with how many beds there were on each of its nights: an outcome is copied and takes no memory, and the stay says how many count.
-    Resized(Stay, [u32; 14]),
+    Resized(Stay, [u32; MAX_STAY_NIGHTS]),
 }
 
 // A booking that holds a choice, by its place.

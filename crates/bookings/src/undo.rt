@@ -4,6 +4,7 @@ ghost use Rattle.std.specs.Option.{option_map};
 ghost use Rattle.bookings.specs.Held.{Covered, Few};
 ghost use Rattle.bookings.specs.Outcomes.{nothing, once_held_by, plain_grant, plain_outcome};
 ghost use Rattle.bookings.specs.Undone.{Rest, reinstated, taken_back};
+ghost use Rattle.bookings.specs.declared.limits.TheConstants.{PLACES};
 
 use crate::nights::{claim_beds, release_beds, restore_beds};
 use crate::outcome::{Grant, Outcome};
@@ -20,7 +21,7 @@ fn once_held_at(outcomes: &[Outcome], place: usize) -> Option<Grant>
 
 // The booking at a place, if it was cancelled or changed, holds its choice again.
 fn reinstate(booked: &mut [u32], outcomes: &mut [Outcome], place: usize)
-    requires long { length booked.old ≡ 5856 }
+    requires long { length booked.old ≡ PLACES }
     requires few { Few booked.old }
     ensures { (beds : List ℕ) →
         ◌≡◌ {A = Rest} (record { beds = beds; booked = booked.new; outcomes = map plain_outcome outcomes.new })
@@ -40,8 +41,8 @@ pub(crate) fn take_back(
     outcomes: &mut [Outcome],
     last: &Outcome,
 )
-    requires long_beds { length beds.old ≡ 5856 }
-    requires long { length booked.old ≡ 5856 }
+    requires long_beds { length beds.old ≡ PLACES }
+    requires long { length booked.old ≡ PLACES }
     requires covered { Covered booked.old (plain_outcome last.now ∷ []) }
     requires few { Few booked.old }
     ensures { ◌≡◌ {A = Rest} (record { beds = beds.new; booked = booked.new; outcomes = map plain_outcome outcomes.new })

@@ -1,8 +1,9 @@
 -- When numbers are choices, and which.
-use Rattle.std.proofs.Common.{◌≡◌, ℕ, zero, suc, ◌+◌, ◌/◌, ◌%◌, ◌<◌, ◌≤◌, ◌⊎◌, List, [], ◌∷◌, ◌++◌, map, length, get_or, take, set, Some, None, refl, sym, ap, ◌∙◌, inl, inr, arith, le-ltb, lt-ltb, eq-eqb, ne_eqb}
+use Rattle.std.proofs.Common.{◌≡◌, ℕ, zero, suc, ◌+◌, ◌*◌, ◌/◌, ◌%◌, ◌<◌, ◌≤◌, ◌⊎◌, List, [], ◌∷◌, ◌++◌, map, length, get_or, take, set, Some, None, refl, sym, ap, ◌∙◌, inl, inr, arith, le-ltb, lt-ltb, eq-eqb, ne_eqb}
 use Rattle.std.proofs.lemmas.List.{map_push, take_more, take_more_set}
 use Rattle.std.specs.Simd.{first_chunks}
 use Rattle.bookings.specs.Plain.{PlainChoice}
+use Rattle.bookings.specs.declared.limits.TheConstants.{MAX_CHOICES}
 use Rattle.console.specs.declared.request.RawChoice.{RawChoice}
 use Rattle.console.specs.Requests.{asked_choice, choice_of, fours, choices_of}
 
@@ -32,11 +33,11 @@ fours_on chunks raws i raw within room same raw-is =
     ∙ ap (λ cs. cs ++ asked_choice raw ∷ []) same ∙ ap (λ c. map four_choice (take i chunks) ++ c ∷ []) raw-is
     ∙ sym (ap (map four_choice) (take_more chunks i [] within) ∙ map_push four_choice (take i chunks) (get_or chunks i []))
 
-pub choices_refused : (ns : List ℕ) → (length ns % 4 ≡ 0 → ⊥) ⊎ ((length ns % 4 ≡ 0) × (16 < length ns)) → choices_of ns ≡ None
+pub choices_refused : (ns : List ℕ) → (length ns % 4 ≡ 0 → ⊥) ⊎ ((length ns % 4 ≡ 0) × (4 * MAX_CHOICES < length ns)) → choices_of ns ≡ None
 unfolding choices_of
 choices_refused ns (inl odd) = rw (ne_eqb (length ns % 4) 0 odd) refl
-choices_refused ns (inr many) = rw (eq-eqb (length ns % 4) 0 many.0, lt-ltb 16 (length ns) many.1) refl
+choices_refused ns (inr many) = rw (eq-eqb (length ns % 4) 0 many.0, lt-ltb (4 * MAX_CHOICES) (length ns) many.1) refl
 
-pub choices_read : (cs : List PlainChoice) (ns : List ℕ) → length ns % 4 ≡ 0 → length ns ≤ 16 → cs ≡ fours ns → Some cs ≡ choices_of ns
+pub choices_read : (cs : List PlainChoice) (ns : List ℕ) → length ns % 4 ≡ 0 → length ns ≤ 4 * MAX_CHOICES → cs ≡ fours ns → Some cs ≡ choices_of ns
 unfolding choices_of
-choices_read cs ns fourfold few cs-is = rw (eq-eqb (length ns % 4) 0 fourfold, le-ltb 16 (length ns) few, cs-is) refl
+choices_read cs ns fourfold few cs-is = rw (eq-eqb (length ns % 4) 0 fourfold, le-ltb (4 * MAX_CHOICES) (length ns) few, cs-is) refl

@@ -3,6 +3,7 @@ use Rattle.std.proofs.Common.{◌≡◌, ℕ, true, List, [], ◌∷◌, map, So
 use Rattle.std.proofs.lemmas.Bool.{false≢true}
 use Rattle.bookings.specs.Plain.{PlainKind, book, cancel, change, supply}
 use Rattle.bookings.specs.Ranges.{Each}
+use Rattle.console.specs.declared.numbers.TheConstants.{MAX_NUMBERS}
 use Rattle.console.specs.declared.verb.Verb.{Verb}
 use Rattle.console.specs.declared.verb.Verb.TheVariants.{Book, Cancel, Change, Beds, Ink, Have, Show, Line, Got, Serve, Letter, Help}
 use Rattle.console.specs.Commands.{Said, pass, huts, at, make, ink, have, show_night, show, log, got, serve, letter, taken, walk, lose, again, cut, stop, help, hut_lines, by_words, parsed}
@@ -28,11 +29,11 @@ same_numbers v (Some ns) = same_form v (hut_lines.said_by v ns)
 -- the line of a verb that a hut reads says there what it says anywhere
 same_line :
     (v : Verb) (ns : List ℕ)
-    → ((ws : List (List ℕ)) → by_words own_lines (name_of v ∷ ws) ≡ in_form_in own_lines (record { verb = v }) (with_numbers_in own_lines (record { verb = v }) (numbers_of 18 ws)))
+    → ((ws : List (List ℕ)) → by_words own_lines (name_of v ∷ ws) ≡ in_form_in own_lines (record { verb = v }) (with_numbers_in own_lines (record { verb = v }) (numbers_of MAX_NUMBERS ws)))
     → Each TenDigits ns → hut_parsed (written v ns) ≡ parsed (written v ns)
 same_line v ns says all =
     let start = name_then v (map decimal ns) (words_of_spaced (map decimal ns) (decimals_are_words ns all)) in
-    ap (by_words own_lines) start ∙ says (map decimal ns) ∙ same_numbers v (numbers_of 18 (map decimal ns)) ∙ sym (name_says v (map decimal ns))
+    ap (by_words own_lines) start ∙ says (map decimal ns) ∙ same_numbers v (numbers_of MAX_NUMBERS (map decimal ns)) ∙ sym (name_says v (map decimal ns))
     ∙ sym (ap (by_words hut_lines) start)
 
 same_request : (k : PlainKind) → RequestSayable k → hut_parsed (request_line k) ≡ parsed (request_line k)

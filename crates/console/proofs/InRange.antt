@@ -5,6 +5,7 @@ use Rattle.bookings.specs.declared.entry.Choice.{Choice}
 use Rattle.bookings.specs.declared.entry.Choices.{Choices}
 use Rattle.bookings.specs.Plain.{PlainChoice, listed, plain_choice, plain_choices}
 use Rattle.bookings.specs.Ranges.{Each, ChoiceOk, ChoicesOk}
+use Rattle.bookings.specs.declared.limits.TheConstants.{MAX_CHOICES}
 use Rattle.console.specs.declared.request.RawChoice.{RawChoice}
 use Rattle.console.specs.Requests.{asked_choice}
 
@@ -33,13 +34,13 @@ checked_on all i d before after choice within after_is fine choice-is same each 
     in
     (cc, rw more (each_push ChoiceOk (map asked_choice (take i all)) (asked_choice (get_or all i d)) each fine))
 
-pub raws_few : (all : List RawChoice) (n : ℕ) → n ≤ 4 → length (take n all) ≤ 4
+pub raws_few : (all : List RawChoice) (n : ℕ) → n ≤ MAX_CHOICES → length (take n all) ≤ MAX_CHOICES
 raws_few all n few = simp length-take (omega arith)
 
 -- a fifth choice is never asked for
 pub no_fifth :
-    (raws : List RawChoice) (i : ℕ) (checked : Choices) → i < length raws → length raws ≤ 4 → plain_choices checked ≡ map asked_choice (take i raws)
-    → length (listed checked) ≡ 4 → ⊥
+    (raws : List RawChoice) (i : ℕ) (checked : Choices) → i < length raws → length raws ≤ MAX_CHOICES → plain_choices checked ≡ map asked_choice (take i raws)
+    → length (listed checked) ≡ MAX_CHOICES → ⊥
 no_fifth raws i checked within few same full =
     let long : length (plain_choices checked) ≡ length (listed checked) = length-map (listed checked) plain_choice in
     let short : length (map asked_choice (take i raws)) ≡ i = length-map (take i raws) asked_choice ∙ simp length-take (omega arith) in
@@ -47,7 +48,7 @@ no_fifth raws i checked within few same full =
 
 -- all of them are checked
 pub all_checked :
-    (raws : List RawChoice) (i : ℕ) (checked : Choices) → length raws ≤ i → length raws ≤ 4 → plain_choices checked ≡ map asked_choice (take i raws)
+    (raws : List RawChoice) (i : ℕ) (checked : Choices) → length raws ≤ i → length raws ≤ MAX_CHOICES → plain_choices checked ≡ map asked_choice (take i raws)
     → Each ChoiceOk (map asked_choice (take i raws)) → ChoicesOk (map asked_choice raws) × (plain_choices checked ≡ map asked_choice raws)
 all_checked raws i checked end few same each =
     let whole : map asked_choice (take i raws) ≡ map asked_choice raws = ap (map asked_choice) (take_all i raws end) in

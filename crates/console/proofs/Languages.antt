@@ -8,6 +8,7 @@ use Rattle.console.specs.Words.{spaced, span, words}
 use Rattle.console.proofs.SpacesMore.{double_space, last_space}
 use Rattle.console.proofs.WordBounds.{begun_word}
 use Rattle.console.proofs.WrittenWords.{words_of_spaced, decimals_are_words, numbers_of_decimals}
+use Rattle.console.specs.declared.numbers.TheConstants.{MAX_NUMBERS}
 
 module _ {V S E : Type 0} (l : Language V S E) where
   -- a line whose first word begins no comment
@@ -19,11 +20,11 @@ module _ {V S E : Type 0} (l : Language V S E) where
   -- a verb and numbers say what they say in that form, to whoever reads words in this way
   pub written_says :
       (by : List (List ℕ) → Result S E) (name : List ℕ) (v : V) (ns : List ℕ) → ((ws : List (List ℕ)) → words (spaced ws) ≡ ws → words (name ++ spaced ws) ≡ name ∷ ws)
-      → ((ws : List (List ℕ)) → by (name ∷ ws) ≡ in_form_in l v (with_numbers_in l v (numbers_of 18 ws))) → length ns ≤ 18
+      → ((ws : List (List ℕ)) → by (name ∷ ws) ≡ in_form_in l v (with_numbers_in l v (numbers_of MAX_NUMBERS ws))) → length ns ≤ MAX_NUMBERS
       → Each TenDigits ns → by (words (written_by name ns)) ≡ in_form_in l v (l.said_by v ns)
   written_says by name v ns starts says few all =
       ap by (starts (map decimal ns) (words_of_spaced (map decimal ns) (decimals_are_words ns all))) ∙ says (map decimal ns)
-      ∙ ap (λ o. in_form_in l v (with_numbers_in l v o)) (numbers_of_decimals 18 ns few all)
+      ∙ ap (λ o. in_form_in l v (with_numbers_in l v o)) (numbers_of_decimals MAX_NUMBERS ns few all)
 
 pub spaces_do_not_matter_in : {R : Type 0} (by : List (List ℕ) → R) → SpacesDoNotMatterIn (λ line. by (words line))
 spaces_do_not_matter_in by = (λ a b. ap by (double_space a b []), λ a. refl, λ a. ap by (last_space a []))

@@ -1,9 +1,11 @@
 -- A command that is written down is read back as that command.
-use Rattle.std.proofs.Common.{◌≡◌, ℕ, ◌*◌, ◌<◌, ◌≤◌, cond, List, [], ◌∷◌, ◌++◌, length, Some, Ok, Err, sym, refl, ap, ◌∙◌, arith, le-ltb, eq-eqb, ne_eqb}
+use Rattle.std.proofs.Common.{◌≡◌, ℕ, ◌+◌, ◌*◌, ◌<◌, ◌≤◌, cond, List, [], ◌∷◌, ◌++◌, length, Some, Ok, Err, sym, refl, ap, ◌∙◌, arith, le-ltb, eq-eqb, ne_eqb}
 use Rattle.bookings.specs.Plain.{PlainChoice, PlainKind, book, cancel, change, supply}
 use Rattle.bookings.specs.Ranges.{Each}
+use Rattle.bookings.specs.declared.limits.TheConstants.{HUTS, MAX_CHOICES, MAX_REHEARSAL_HUTS}
 use Rattle.console.specs.declared.command.Expected.{Expected}
 use Rattle.console.specs.declared.command.Expected.TheVariants.{Take}
+use Rattle.console.specs.declared.numbers.TheConstants.{MAX_NUMBERS}
 use Rattle.console.specs.declared.verb.Verb.{Verb}
 use Rattle.console.specs.declared.verb.Verb.TheVariants.{Huts, At, Book, Cancel, Change, Beds, Ink, Have, Show, Line, Got, Serve, Letter, Walk, Lose, Again, Cut, Stop, Help}
 use Rattle.console.specs.Commands.{Said, pass, huts, at, make, ink, have, show_night, show, log, got, serve, letter, taken, walk, lose, again, cut, stop, help, said_by, hut_lines, take_name, by_words, parsed}
@@ -42,7 +44,7 @@ name_then Cut ws further = word_then _ _ [] ws tt further
 name_then Stop ws further = word_then _ _ [] ws tt further
 name_then Help ws further = word_then _ _ [] ws tt further
 
-pub name_says : (v : Verb) (ws : List (List ℕ)) → by_words hut_lines (name_of v ∷ ws) ≡ in_form_in hut_lines v (with_numbers_in hut_lines v (numbers_of 18 ws))
+pub name_says : (v : Verb) (ws : List (List ℕ)) → by_words hut_lines (name_of v ∷ ws) ≡ in_form_in hut_lines v (with_numbers_in hut_lines v (numbers_of MAX_NUMBERS ws))
 name_says Huts ws = refl
 name_says At ws = refl
 name_says Book ws = refl
@@ -63,7 +65,7 @@ name_says Cut ws = refl
 name_says Stop ws = refl
 name_says Help ws = refl
 
-says : (v : Verb) (ns : List ℕ) → length ns ≤ 18 → Each TenDigits ns → parsed (written v ns) ≡ in_form_in hut_lines v (said_by v ns)
+says : (v : Verb) (ns : List ℕ) → length ns ≤ MAX_NUMBERS → Each TenDigits ns → parsed (written v ns) ≡ in_form_in hut_lines v (said_by v ns)
 says v ns few all = written_says hut_lines (by_words hut_lines) (name_of v) v ns (name_then v) (name_says v) few all
 
 -- choices, as four numbers each
@@ -75,7 +77,7 @@ fours_of_numbers : (cs : List PlainChoice) → fours (choice_numbers cs) ≡ cs
 fours_of_numbers [] = refl
 fours_of_numbers (c ∷ cs) = ap (λ t. c ∷ t) (fours_of_numbers cs)
 
-choices_of_numbers : (cs : List PlainChoice) → length cs ≤ 4 → choices_of (choice_numbers cs) ≡ Some cs
+choices_of_numbers : (cs : List PlainChoice) → length cs ≤ MAX_CHOICES → choices_of (choice_numbers cs) ≡ Some cs
 choices_of_numbers cs few =
     let long = length-choice_numbers cs in
     sym (choices_read cs (choice_numbers cs) (omega arith) (omega arith) (sym (fours_of_numbers cs)))
@@ -107,7 +109,7 @@ letter-reads_back l bytes all some =
 pub lines_read_back : (s : Said) → Sayable s → parsed (line_of s) ≡ Ok s
 lines_read_back pass h = refl
 lines_read_back (huts hs) h =
-    says Huts hs (omega arith) h.0 ∙ rw (ne_eqb (length hs) 0 (omega arith), le-ltb 4 (length hs) h.2) refl
+    says Huts hs (omega arith) h.0 ∙ rw (ne_eqb (length hs) 0 (omega arith), le-ltb MAX_REHEARSAL_HUTS (length hs) h.2) refl
 lines_read_back (at n) h = says At (n ∷ []) (omega arith) (h, tt)
 lines_read_back (make k) h = request_reads_back k h
 lines_read_back ink h = says Ink [] (omega arith) tt
@@ -116,9 +118,9 @@ lines_read_back (show_night n m) h = says Show (n ∷ m ∷ []) (omega arith) (h
 lines_read_back show h = says Show [] (omega arith) tt
 lines_read_back log h = says Line [] (omega arith) tt
 lines_read_back (got m) h = says Got (m.stamp ∷ m.hut ∷ []) (omega arith) (h.0, (h.1, tt))
-lines_read_back (serve ns) h = says Serve ns (omega arith) h.0 ∙ rw (eq-eqb (length ns) 16 h.1) refl
+lines_read_back (serve ns) h = says Serve ns (omega arith) h.0 ∙ rw (eq-eqb (length ns) HUTS h.1) refl
 lines_read_back (letter n ns) h =
-    says Letter (n ∷ ns) (omega arith) h.0 ∙ rw (eq-eqb (length (n ∷ ns)) 17 (omega arith)) refl
+    says Letter (n ∷ ns) (omega arith) h.0 ∙ rw (eq-eqb (length (n ∷ ns)) (1 + HUTS) (omega arith)) refl
 lines_read_back (taken bytes) h = letter-reads_back hut_lines bytes h.0 h.1
 lines_read_back (walk n m) h = says Walk (n ∷ m ∷ []) (omega arith) (h.0, (h.1, tt))
 lines_read_back (lose n m) h = says Lose (n ∷ m ∷ []) (omega arith) (h.0, (h.1, tt))

@@ -1,6 +1,7 @@
 -- What a line says by its verb and its numbers.
-use Rattle.std.proofs.Common.{◌≡◌, ℕ, ◌≤◌, List, ◌∷◌, length, get_or, drop, Some, Option, refl, arith, le-ltb, eq-eqb, ne_eqb}
+use Rattle.std.proofs.Common.{◌≡◌, ℕ, ◌+◌, ◌≤◌, List, ◌∷◌, length, get_or, drop, Some, Option, refl, arith, le-ltb, eq-eqb, ne_eqb}
 use Rattle.bookings.specs.Plain.{PlainMark, PlainChoice}
+use Rattle.bookings.specs.declared.limits.TheConstants.{HUTS}
 use Rattle.console.specs.Commands.{letter, book_with, book_of, change_with, change_of, letter_of}
 use Rattle.console.specs.Requests.{mark_of, choices_of}
 
@@ -14,5 +15,5 @@ pub change_says :
 change_says ns rest m o some m-is rest-is o_is = rw (le-ltb (length ns) 2 some, m-is, o_is, rest-is) refl
 
 pub letter_says :
-    (ns rest stamps : List ℕ) (n : ℕ) → ns ≡ n ∷ rest → length rest ≡ 16 → stamps ≡ rest → Some (letter n stamps) ≡ letter_of ns
-letter_says ns rest stamps n ns-is sixteen stamps-is = rw (ns-is, eq-eqb (length (n ∷ rest)) 17 (omega (arith, sixteen)), stamps-is) refl
+    (ns rest stamps : List ℕ) (n : ℕ) → ns ≡ n ∷ rest → length rest ≡ HUTS → stamps ≡ rest → Some (letter n stamps) ≡ letter_of ns
+letter_says ns rest stamps n ns-is sixteen stamps-is = rw (ns-is, eq-eqb (length (n ∷ rest)) (1 + HUTS) (omega (arith, sixteen)), stamps-is) refl

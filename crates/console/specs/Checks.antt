@@ -1,5 +1,5 @@
 -- When a request is in range, and what comes of it.
-use Rattle.std.specs.Prelude.{◌≡◌, ℕ, ◌<◌, List, length, Ok, Err, Result, slice_index}
+use Rattle.std.specs.Prelude.{◌≡◌, ℕ, ◌^◌, ◌<◌, List, length, Ok, Err, Result, slice_index}
 use Rattle.bookings.specs.declared.entry.Kind.{Kind}
 use Rattle.bookings.specs.declared.refusal.Refusal.{Refusal}
 use Rattle.bookings.specs.Plain.{PlainKind, book, cancel, change, supply, plain_kind}
@@ -8,7 +8,7 @@ use Rattle.bookings.specs.Refusals.{number_of}
 
 -- guests and stamps have 32 bits
 abbrev pub Fits32 : ℕ → Type 0
-Fits32 n = n < 4294967296
+Fits32 n = n < 2 ^ 32
 
 abbrev pub StampsFit : List ℕ → Type 0
 StampsFit ns = (i : ℕ) → i < length ns → Fits32 (slice_index ns i)

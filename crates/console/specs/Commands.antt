@@ -1,8 +1,9 @@
 -- What a line says.
-use Rattle.std.specs.Prelude.{ℕ, cond, List, [], ◌∷◌, length, take, drop, Some, None, Ok, Err, codes, Option, Result, ◌==◌, nat_lt, slice_index}
+use Rattle.std.specs.Prelude.{ℕ, ◌+◌, cond, List, [], ◌∷◌, length, take, drop, Some, None, Ok, Err, codes, Option, Result, ◌==◌, nat_lt, slice_index}
 use Rattle.std.specs.Option.{option_map}
 use Rattle.std.specs.Str.{bytes_eq}
 use Rattle.bookings.specs.Plain.{PlainMark, PlainChoice, PlainKind, book, cancel, change, supply}
+use Rattle.bookings.specs.declared.limits.TheConstants.{HUTS, MAX_REHEARSAL_HUTS}
 use Rattle.console.specs.declared.command.Asked.{Asked}
 use Rattle.console.specs.declared.command.Command.{Command}
 use Rattle.console.specs.declared.command.Command.TheVariants as commands
@@ -61,7 +62,7 @@ said bytes commands.Help = help
 
 -- what numbers say behind each verb, if their count is right
 abbrev pub huts_of : List ℕ → Option Said
-huts_of ns = cond (length ns == 0) None (cond (nat_lt 4 (length ns)) None (Some (huts ns)))
+huts_of ns = cond (length ns == 0) None (cond (nat_lt MAX_REHEARSAL_HUTS (length ns)) None (Some (huts ns)))
 
 abbrev pub at_of : List ℕ → Option Said
 at_of ns = cond (length ns == 1) (Some (at (slice_index ns 0))) None
@@ -101,7 +102,7 @@ abbrev pub serve_of : List ℕ → Option Said
 serve_of ns = sixteen_in serve ns
 
 abbrev pub letter_of : List ℕ → Option Said
-letter_of ns = cond (length ns == 17) (Some (letter (slice_index ns 0) (drop 1 ns))) None
+letter_of ns = cond (length ns == 1 + HUTS) (Some (letter (slice_index ns 0) (drop 1 ns))) None
 
 abbrev pub walk_of : List ℕ → Option Said
 walk_of ns = cond (length ns == 2) (Some (walk (slice_index ns 0) (slice_index ns 1))) None

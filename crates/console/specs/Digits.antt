@@ -1,5 +1,6 @@
 -- The number that a word writes.
 use Rattle.std.specs.Prelude.{ℕ, ◌+◌, ◌-◌, ◌*◌, cond, List, [], ◌∷◌, length, Some, None, Option, ◌==◌, nat_lt}
+use Rattle.bookings.specs.declared.limits.TheConstants.{HUTS}
 
 -- the number that digits write, where n stands before them; none where a byte is no digit
 abbrev pub digits_after : ℕ → List ℕ → Option ℕ
@@ -10,10 +11,10 @@ digits_after n (b ∷ bs) = cond (nat_lt b 48) None (cond (nat_lt 57 b) None (di
 abbrev pub number_of : List ℕ → Option ℕ
 number_of w = cond (length w == 0) None (cond (nat_lt 10 (length w)) None (digits_after 0 w))
 
-abbrev pub below_16 : Option ℕ → Option ℕ
-below_16 None = None
-below_16 (Some n) = cond (nat_lt n 16) (Some n) None
+abbrev pub below_huts : Option ℕ → Option ℕ
+below_huts None = None
+below_huts (Some n) = cond (nat_lt n HUTS) (Some n) None
 
 -- the number of a hut that a word writes
 abbrev pub hut_of : List ℕ → Option ℕ
-hut_of w = below_16 (number_of w)
+hut_of w = below_huts (number_of w)

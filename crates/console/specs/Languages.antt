@@ -1,8 +1,10 @@
 -- A language of lines: its verbs, each with numbers behind it, and what a line says in it.
 use Rattle.std.specs.Prelude.{◌≡◌, ℕ, cond, List, [], ◌∷◌, ◌++◌, map, length, Some, None, Ok, Err, decimal, Option, Result, ◌==◌, slice_index}
 use Rattle.std.specs.Str.{bytes_eq}
+use Rattle.bookings.specs.declared.limits.TheConstants.{HUTS}
 use Rattle.console.specs.Numbers.{numbers_of}
 use Rattle.console.specs.Words.{space, spaced, words}
+use Rattle.console.specs.declared.numbers.TheConstants.{MAX_NUMBERS}
 
 -- of verbs V, in which lines say S or should have been E
 pub record Language (V S E : Type 0) : Type 0 where
@@ -26,7 +28,7 @@ in_form_in l v (Some s) = Ok s
 
 abbrev pub by_verb_in : {V S E : Type 0} → Language V S E → Option V → List (List ℕ) → Result S E
 by_verb_in l None ws = Err l.no_verb
-by_verb_in l (Some v) ws = in_form_in l v (with_numbers_in l v (numbers_of 18 ws))
+by_verb_in l (Some v) ws = in_form_in l v (with_numbers_in l v (numbers_of MAX_NUMBERS ws))
 
 -- a line without words says nothing, nor does one whose first word begins with '#'
 abbrev pub by_words_in : {V S E : Type 0} → Language V S E → List (List ℕ) → Result S E
@@ -50,7 +52,7 @@ abbrev pub alone_in : {S : Type 0} → S → List ℕ → Option S
 alone_in s ns = cond (length ns == 0) (Some s) None
 
 abbrev pub sixteen_in : {S : Type 0} → (List ℕ → S) → List ℕ → Option S
-sixteen_in s ns = cond (length ns == 16) (Some (s ns)) None
+sixteen_in s ns = cond (length ns == HUTS) (Some (s ns)) None
 
 -- a verb's name and numbers, with single spaces between them
 abbrev pub written_by : List ℕ → List ℕ → List ℕ

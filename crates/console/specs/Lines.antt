@@ -2,6 +2,7 @@
 use Rattle.std.specs.Prelude.{◌≡◌, ℕ, ◌<◌, ◌≤◌, List, [], ◌∷◌, ◌++◌, length}
 use Rattle.bookings.specs.Plain.{PlainChoice, PlainKind, book, cancel, change, supply}
 use Rattle.bookings.specs.Ranges.{Each}
+use Rattle.bookings.specs.declared.limits.TheConstants.{HUTS, MAX_CHOICES, MAX_REHEARSAL_HUTS}
 use Rattle.console.specs.declared.verb.Verb.{Verb}
 use Rattle.console.specs.declared.verb.Verb.TheVariants.{Huts, At, Book, Cancel, Change, Beds, Ink, Have, Show, Line, Got, Serve, Letter, Walk, Lose, Again, Cut, Stop, Help}
 use Rattle.console.specs.Commands.{Said, pass, huts, at, make, ink, have, show_night, show, log, got, serve, letter, taken, walk, lose, again, cut, stop, help, take_name, parsed}
@@ -50,14 +51,14 @@ abbrev pub TenDigits : ℕ → Type 0
 TenDigits n = n < 10000000000
 
 abbrev pub RequestSayable : PlainKind → Type 0
-RequestSayable (book g cs) = Each TenDigits (g ∷ choice_numbers cs) × (length cs ≤ 4)
+RequestSayable (book g cs) = Each TenDigits (g ∷ choice_numbers cs) × (length cs ≤ MAX_CHOICES)
 RequestSayable (cancel m) = Each TenDigits (m.stamp ∷ m.hut ∷ [])
-RequestSayable (change m cs) = Each TenDigits (m.stamp ∷ m.hut ∷ choice_numbers cs) × (length cs ≤ 4)
+RequestSayable (change m cs) = Each TenDigits (m.stamp ∷ m.hut ∷ choice_numbers cs) × (length cs ≤ MAX_CHOICES)
 RequestSayable (supply c) = Each TenDigits (choice_numbers (c ∷ []))
 
 abbrev pub Sayable : Said → Type 0
 Sayable pass = Unit {0}
-Sayable (huts hs) = Each TenDigits hs × (0 < length hs) × (length hs ≤ 4)
+Sayable (huts hs) = Each TenDigits hs × (0 < length hs) × (length hs ≤ MAX_REHEARSAL_HUTS)
 Sayable (at h) = TenDigits h
 Sayable (make k) = RequestSayable k
 Sayable ink = Unit {0}
@@ -66,8 +67,8 @@ Sayable (show_night h n) = TenDigits h × TenDigits n
 Sayable show = Unit {0}
 Sayable log = Unit {0}
 Sayable (got m) = TenDigits m.stamp × TenDigits m.hut
-Sayable (serve ns) = Each TenDigits ns × (length ns ≡ 16)
-Sayable (letter c ns) = Each TenDigits (c ∷ ns) × (length ns ≡ 16)
+Sayable (serve ns) = Each TenDigits ns × (length ns ≡ HUTS)
+Sayable (letter c ns) = Each TenDigits (c ∷ ns) × (length ns ≡ HUTS)
 Sayable (taken bytes) = Each IsByte bytes × (0 < length bytes)
 Sayable (walk i j) = TenDigits i × TenDigits j
 Sayable (lose i j) = TenDigits i × TenDigits j

@@ -1,6 +1,7 @@
 -- Requests as plain numbers and lists, in the words of an entry's kind.
-use Rattle.std.specs.Prelude.{ℕ, ◌%◌, cond, List, [], ◌∷◌, map, length, take, Some, None, Option, ◌==◌, nat_lt}
+use Rattle.std.specs.Prelude.{ℕ, ◌*◌, ◌%◌, cond, List, [], ◌∷◌, map, length, take, Some, None, Option, ◌==◌, nat_lt}
 use Rattle.bookings.specs.Plain.{PlainMark, PlainChoice, PlainKind, book, cancel, change, supply}
+use Rattle.bookings.specs.declared.limits.TheConstants.{MAX_CHOICES}
 use Rattle.console.specs.declared.mark.RawMark.{RawMark}
 use Rattle.console.specs.declared.request.RawChoice.{RawChoice}
 use Rattle.console.specs.declared.request.RawChoices.{RawChoices}
@@ -42,7 +43,7 @@ fours (h ∷ n ∷ k ∷ b ∷ ns) = choice_of h n k b ∷ fours ns
 
 -- up to four choices of four numbers each
 unfoldable pub choices_of : List ℕ → Option (List PlainChoice)
-choices_of ns = cond (length ns % 4 == 0) (cond (nat_lt 16 (length ns)) None (Some (fours ns))) None
+choices_of ns = cond (length ns % 4 == 0) (cond (nat_lt (4 * MAX_CHOICES) (length ns)) None (Some (fours ns))) None
 
 abbrev pub read_choices : Option RawChoices → Option (List PlainChoice)
 read_choices None = None

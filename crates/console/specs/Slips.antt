@@ -2,6 +2,7 @@
 use Rattle.std.specs.Prelude.{◌≡◌, ℕ, List, [], length, None, codes, Option, Result}
 use Rattle.std.specs.Option.{option_map}
 use Rattle.bookings.specs.Ranges.{Each}
+use Rattle.bookings.specs.declared.limits.TheConstants.{HUTS}
 use Rattle.console.specs.declared.slip.SlipCommand.{SlipCommand}
 use Rattle.console.specs.declared.slip.SlipCommand.TheVariants as commands
 use Rattle.console.specs.declared.slip.SlipExpected.{SlipExpected}
@@ -72,8 +73,8 @@ slip_line_of help = slip_written Help []
 abbrev pub SlipSayable : SlipSaid → Type 0
 SlipSayable pass = Unit {0}
 SlipSayable slip = Unit {0}
-SlipSayable (may ns) = Each TenDigits ns × (length ns ≡ 16)
-SlipSayable (add ns) = Each TenDigits ns × (length ns ≡ 16)
+SlipSayable (may ns) = Each TenDigits ns × (length ns ≡ HUTS)
+SlipSayable (add ns) = Each TenDigits ns × (length ns ≡ HUTS)
 SlipSayable help = Unit {0}
 
 -- one space more, between words, in front or behind, changes nothing

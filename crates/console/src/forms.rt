@@ -9,6 +9,7 @@ use crate::numbers::Numbers;
 use crate::request::{RawChoice, RawChoices, Request};
 use crate::vector::RawVector;
 use crate::verb::Verb;
+use bookings::limits::MAX_REHEARSAL_HUTS;
 
 // The command of a verb and numbers, unless their count is wrong.
 pub(crate) fn by_verb(verb: Verb, numbers: Numbers) -> Option<Command>
@@ -41,7 +42,7 @@ fn huts(numbers: Numbers) -> Option<Command>
     ensures { said_if result ≡ huts_of (take numbers.count numbers.all) }
 {
     let count = numbers.as_slice().len();
-    if count == 0 || count > 4 {
+    if count == 0 || count > MAX_REHEARSAL_HUTS {
         return None;
     }
     Some(Command::Huts { huts: numbers })

@@ -4,6 +4,7 @@ ghost use Rattle.std.specs.Option.{option_map};
 ghost use Rattle.console.specs.Languages.{Language, alone_in, with_numbers_in, by_verb_in, parsed_in, told_as};
 ghost use Rattle.console.specs.Numbers.{numbers_of};
 ghost use Rattle.console.specs.Words.{words};
+ghost use Rattle.console.specs.declared.numbers.TheConstants.{MAX_NUMBERS};
 
 use crate::numbers::Numbers;
 use crate::words::first_word;
@@ -64,7 +65,7 @@ fn read_verb<V: Verbs>(word: &[u8], rest: &[u8]) -> Result<V::Command, V::Expect
 }
 
 fn read_form<V: Verbs>(verb: V, rest: &[u8]) -> Option<V::Command>
-    ensures { option_map V.said result ≡ with_numbers_in V.language verb (numbers_of 18 (words rest.now)) }
+    ensures { option_map V.said result ≡ with_numbers_in V.language verb (numbers_of MAX_NUMBERS (words rest.now)) }
 {
     let numbers = Numbers::read(rest)?;
     verb.command(numbers)

@@ -2,6 +2,8 @@
 ghost use Rattle.std.specs.Prelude.{◌≡◌, ◌-◌, ◌<◌, ◌≤◌, ◌⊎◌, MatchOption};
 ghost use Rattle.console.specs.Digits.{number_of, hut_of};
 
+use bookings::limits::HUTS;
+
 // The number that a word writes by 1 to 10 decimal digits.
 pub fn read_number(word: &[u8]) -> Option<u64>
     ensures { result ≡ number_of word.now }
@@ -28,8 +30,8 @@ pub fn read_hut(word: &[u8]) -> Option<u8>
     ensures { result ≡ hut_of word.now }
 {
     let number = read_number(word)?;
-    // Less than 16: `try_from` would add an error that cannot come.
-    if number < 16 {
+    // Less than `HUTS`: `try_from` would add an error that cannot come.
+    if number < HUTS as u64 {
         Some(number as u8)
     } else {
         None

@@ -1,7 +1,9 @@
 // What a line asks to be entered, in numbers that may be out of range.
 ghost use Rattle.std.specs.Prelude.{◌≡◌, ◌≤◌, length};
+ghost use Rattle.bookings.specs.declared.limits.TheConstants.{MAX_CHOICES};
 
 use crate::mark::RawMark;
+use bookings::limits::MAX_CHOICES;
 
 mod checks;
 mod reads;
@@ -20,9 +22,9 @@ pub struct RawChoice {
 #[derive(Clone, Copy)]
 pub struct RawChoices {
     count: usize,
-    all: [RawChoice; 4],
-    ghost few: { count ≤ 4 },
-    ghost four: { length all ≡ 4 },
+    all: [RawChoice; MAX_CHOICES],
+    ghost few: { count ≤ MAX_CHOICES },
+    ghost four: { length all ≡ MAX_CHOICES },
 }
 
 #[derive(Clone, Copy)]

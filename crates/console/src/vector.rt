@@ -1,10 +1,13 @@
-// A vector of a line: a stamp for each of the sixteen huts, which may be out of range. That of `entry_log` is one whose stamps are in range.
+// A vector of a line: a stamp for each hut, which may be out of range. That of `entry_log` is one whose stamps are in range.
 ghost use Rattle.std.specs.Prelude.{◌≡◌, length};
+ghost use Rattle.bookings.specs.declared.limits.TheConstants.{HUTS};
+
+use bookings::limits::HUTS;
 
 mod methods;
 
 #[derive(Clone, Copy)]
 pub struct RawVector {
-    all: [u64; 16],
-    ghost sixteen: { length all ≡ 16 },
+    all: [u64; HUTS],
+    ghost sixteen: { length all ≡ HUTS },
 }

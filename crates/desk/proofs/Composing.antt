@@ -12,6 +12,7 @@ use Rattle.journal.specs.Finding.{FindsOf, FoundOf}
 use Rattle.journal.specs.History.{Kept, commits, makes, opened, state_in, synced}
 use Rattle.journal.specs.Records.{history_in}
 use Rattle.letters.specs.Letters.{encode_letter}
+use Rattle.letters.specs.declared.limits.TheConstants.{LETTER_ROOM}
 use Rattle.network.proofs.Stages.{put_elsewhere, put_here}
 use Rattle.network.proofs.Tests.{T_true, cond_by}
 use Rattle.network.specs.Effects.{commits_synced, first_of, synced_if}
@@ -23,7 +24,7 @@ use Rattle.network.specs.declared.unplayed.Unplayed.TheVariants.{Memory, Refused
 use Rattle.replica.specs.Model.{State, make_refusal, serves, slip_after}
 use Rattle.desk.specs.Composed.{ForGuest, shown, booked, GuestComposes, SlipTold, Honest, LedOn, LineComposes, LineDone, LineFailed, LineRefused, LineUnwritten}
 use Rattle.desk.specs.Replies.{Told, Untold}
-use Rattle.desk.specs.Steps.{LineFinds, LineWrites, RestsAs, line_makes, line_refused, longest, takes_typed}
+use Rattle.desk.specs.Steps.{LineFinds, LineWrites, RestsAs, line_makes, line_refused, takes_typed}
 use Rattle.desk.specs.declared.reply.Reply.{Reply}
 use Rattle.desk.specs.declared.reply.Reply.TheVariants.{Line}
 
@@ -102,12 +103,12 @@ module _ (m : Mail) (i : ℕ) (low : i < huts) where
         )
 
     takes : (bs : List ℕ) → Honest m commands.Take bs → keeps (takes_typed bs (m.hut i))
-        → LedOn keeps i m (λ n. (n ≡ keeping i (take_bytes bs (m.hut i)) m) ⊎ ((longest < length bs) × (n ≡ m)))
+        → LedOn keeps i m (λ n. (n ≡ keeping i (take_bytes bs (m.hut i)) m) ⊎ ((LETTER_ROOM < length bs) × (n ≡ m)))
     takes bs honest =
         cond_by
-        (λ (x : Kept). keeps x → LedOn keeps i m (λ n. (n ≡ keeping i (take_bytes bs (m.hut i)) m) ⊎ ((longest < length bs) × (n ≡ m))))
-        (nat_lt longest (length bs)) (m.hut i) (take_bytes bs (m.hut i))
-        (λ t. stays keeps m i _ (inr (ltb-true longest (length bs) (T_true _ t), refl)))
+        (λ (x : Kept). keeps x → LedOn keeps i m (λ n. (n ≡ keeping i (take_bytes bs (m.hut i)) m) ⊎ ((LETTER_ROOM < length bs) × (n ≡ m))))
+        (nat_lt LETTER_ROOM (length bs)) (m.hut i) (take_bytes bs (m.hut i))
+        (λ t. stays keeps m i _ (inr (ltb-true LETTER_ROOM (length bs) (T_true _ t), refl)))
         (λ _. led keeps m i _ _ (hear bs honest) (inl refl))
 
     -- a line that is done

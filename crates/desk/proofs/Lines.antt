@@ -8,6 +8,7 @@ use Rattle.bookings.specs.Plain.{plain, plain_kind, plain_mark}
 use Rattle.bookings.specs.declared.entry.Entry.{Entry}
 use Rattle.bookings.specs.declared.entry.Kind.{Kind}
 use Rattle.bookings.specs.declared.entry.Kind.TheVariants as entries
+use Rattle.bookings.specs.declared.limits.TheConstants.{NIGHTS}
 use Rattle.console.specs.Answers.{kind_name_of, standing_of}
 use Rattle.console.specs.Requests.{raw_mark}
 use Rattle.console.specs.declared.answer.Answer.TheVariants as answers
@@ -80,6 +81,6 @@ pub nights_more : (b : PlainBook) (hut n : ℕ) → nights_lines b hut n ++ line
 unfolding nights_lines
 nights_more b hut n = rw add-one refl
 
-pub huts_more : (b : PlainBook) (n : ℕ) → huts_lines b n ++ nights_lines b n 366 ≡ huts_lines b (n + 1)
+pub huts_more : (b : PlainBook) (n : ℕ) → huts_lines b n ++ nights_lines b n NIGHTS ≡ huts_lines b (n + 1)
 unfolding huts_lines
 huts_more b n = rw add-one refl

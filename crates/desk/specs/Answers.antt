@@ -5,6 +5,7 @@ use Rattle.bookings.specs.Nights.{place_of}
 use Rattle.bookings.specs.Outcomes.{nothing}
 use Rattle.bookings.specs.Plain.{PlainMark}
 use Rattle.bookings.specs.Ranges.{MarkOk}
+use Rattle.bookings.specs.declared.limits.TheConstants.{INITIAL_BEDS}
 use Rattle.console.specs.Answers.{standing_of, got_of}
 use Rattle.console.specs.Checks.{Fits32, StampsFit}
 use Rattle.console.specs.Requests.{raw_mark}
@@ -36,7 +37,7 @@ night_told b hut night = answers.Night hut night (slice_index b.beds (place_of h
 
 -- a night is as it was in the first book
 abbrev pub is_plain : PlainBook → ℕ → ℕ → Bool
-is_plain b hut night = slice_index b.beds (place_of hut night) == 20 && slice_index b.booked (place_of hut night) == 0
+is_plain b hut night = slice_index b.beds (place_of hut night) == INITIAL_BEDS && slice_index b.booked (place_of hut night) == 0
 
 -- a night is listed unless it is as in the first book
 abbrev pub noted_on : PlainBook → ℕ → ℕ → Option Answer

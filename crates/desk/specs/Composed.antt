@@ -11,6 +11,7 @@ use Rattle.entry_log.specs.declared.vector.Vector.{Vector}
 use Rattle.journal.specs.Finding.{FindsOf}
 use Rattle.journal.specs.History.{Kept, synced, makes, commits}
 use Rattle.letters.specs.Letters.{damaged, read_letter}
+use Rattle.letters.specs.declared.limits.TheConstants.{LETTER_ROOM}
 use Rattle.network.specs.Effects.{commits_synced}
 use Rattle.network.specs.Mail.{Mail, Agrees, Calls, Runs, keeping, posting, visited, made_for}
 use Rattle.network.specs.Net.{Event, Guest, huts, put, served}
@@ -18,7 +19,6 @@ use Rattle.network.specs.Promised.{Promised}
 use Rattle.network.specs.Taking.{take_bytes}
 use Rattle.network.specs.declared.unplayed.Unplayed.{Unplayed}
 use Rattle.network.specs.declared.unplayed.Unplayed.TheVariants.{Memory, Refused, Failed}
-use Rattle.desk.specs.Steps.{longest}
 use Rattle.desk.specs.declared.reply.Reply.{Reply}
 use Rattle.desk.specs.declared.reply.Reply.TheVariants as replies
 
@@ -32,7 +32,7 @@ abbrev pub LineDone : (i : ℕ) → Command → (letter page : List ℕ) → Mai
 LineDone i (commands.Make q) bs page m n = n ≡ keeping i (synced (makes (asked q) (m.hut i))) m
 LineDone i commands.Ink bs page m n = n ≡ keeping i (commits_synced (m.hut i)) m
 LineDone i (commands.Letter c v) bs page m n = n ≡ posting i (synced (m.hut i)) page m
-LineDone i commands.Take bs page m n = (n ≡ keeping i (take_bytes bs (m.hut i)) m) ⊎ ((longest < length bs) × (n ≡ m))
+LineDone i commands.Take bs page m n = (n ≡ keeping i (take_bytes bs (m.hut i)) m) ⊎ ((LETTER_ROOM < length bs) × (n ≡ m))
 LineDone i commands.Pass bs page m n = n ≡ m
 LineDone i commands.Help bs page m n = n ≡ m
 LineDone i _ bs page m n = n ≡ keeping i (synced (m.hut i)) m

@@ -1,6 +1,7 @@
 -- What holds of a desk's answers, in the words of what was asked and of what a replica knows.
 use Rattle.std.specs.Prelude.{◌≡◌, ℕ, ◌+◌, ◌<◌, true, not, ◌⊎◌, List, map, length, count_by, Some, slice_index_or}
 use Rattle.bookings.specs.Plain.{PlainMark, PlainEntry}
+use Rattle.bookings.specs.declared.limits.TheConstants.{HUTS, NIGHTS}
 use Rattle.console.specs.Answers.{got_of, standing_of}
 use Rattle.console.specs.Checks.{Fits32, StampsFit, RequestOk}
 use Rattle.console.specs.Requests.{asked, asked_mark, raw_mark}
@@ -34,7 +35,7 @@ abbrev pub LineWhy : State → State → Command → ℕ → Type 0
 LineWhy was is (commands.Make q) n = ((n ≡ 2) × (RequestOk (asked q) → ⊥)) ⊎ MakeWhy (asked q) was n
 LineWhy was is commands.Ink n = (n ≡ 6) × (was.hut ≡ leader was.log.committed → ⊥)
 LineWhy was is (commands.Letter c v) n = (n ≡ 2) × (Fits32 c × StampsFit v.all → ⊥)
-LineWhy was is (commands.ShowNight hut night) n = (n ≡ 2) × ((hut < 16) × (night < 366) → ⊥)
+LineWhy was is (commands.ShowNight hut night) n = (n ≡ 2) × ((hut < HUTS) × (night < NIGHTS) → ⊥)
 LineWhy was is (commands.Got m) n =
     ((n ≡ 2) × (AskedOk (asked_mark m) → ⊥))
     ⊎ ((n ≡ 9) × (HasMark (asked_mark m) (all_of is.log) → ⊥))

@@ -3,6 +3,7 @@ use Rattle.std.specs.Prelude.{◌≡◌, ℕ, ◌-◌, ◌<◌, true, false, ◌
 use Rattle.std.specs.declared.result.Result.{Result}
 use Rattle.bookings.specs.Books.{book_of}
 use Rattle.bookings.specs.Refusals.{number_of}
+use Rattle.bookings.specs.declared.limits.TheConstants.{HUTS, NIGHTS}
 use Rattle.bookings.specs.declared.refusal.Refusal.TheVariants.{Damaged}
 use Rattle.console.specs.Checks.{Fits32, StampsFit, RequestOk}
 use Rattle.console.specs.Requests.{asked, asked_mark, raw_mark}
@@ -15,11 +16,11 @@ use Rattle.console.specs.declared.command.Command.TheVariants as commands
 use Rattle.entry_log.specs.Logs.{all_of, first_mark}
 use Rattle.entry_log.specs.Vectors.{vector_of}
 use Rattle.entry_log.specs.declared.vector.Vector.{Vector}
+use Rattle.letters.specs.declared.limits.TheConstants.{LETTER_ROOM}
 use Rattle.network.specs.declared.unplayed.Unplayed.{Unplayed}
 use Rattle.network.specs.declared.unplayed.Unplayed.TheVariants as unplayed
 use Rattle.replica.specs.Model.{State, make_refusal, next_mark, is_primary}
 use Rattle.desk.specs.Answers.{AskedOk, GotRefused, got_in, night_told, committed_at, ServedBy, ServeRefused}
-use Rattle.desk.specs.Steps.{longest}
 use Rattle.desk.specs.declared.reply.Reply.{Reply}
 use Rattle.desk.specs.declared.reply.Reply.TheVariants as replies
 
@@ -27,7 +28,7 @@ use Rattle.desk.specs.declared.reply.Reply.TheVariants as replies
 abbrev pub Shown : State → Command → Reply → Type 0
 Shown s commands.Have r =
     (v : Vector) × (r ≡ replies.Line (answers.Have (length s.log.committed) v)) × (v.stamps ≡ vector_of (all_of s.log))
-Shown s (commands.ShowNight h n) r = (h < 16) × (n < 366) × (r ≡ replies.Line (night_told (book_of (all_of s.log)) h n))
+Shown s (commands.ShowNight h n) r = (h < HUTS) × (n < NIGHTS) × (r ≡ replies.Line (night_told (book_of (all_of s.log)) h n))
 Shown s commands.Show r = r ≡ replies.Book
 Shown s commands.Line r = r ≡ replies.Log
 Shown s (commands.Got m) r = AskedOk (asked_mark m) × ((a : Answer) × (r ≡ replies.Line a) × (got_in s (asked_mark m) ≡ Some a))
@@ -36,7 +37,7 @@ Shown s _ r = r ≡ replies.Nothing
 
 -- by which number it is not shown, and just when
 abbrev pub Hidden : State → Command → ℕ → Type 0
-Hidden s (commands.ShowNight h n) number = (number ≡ 2) × ((h < 16) × (n < 366) → ⊥)
+Hidden s (commands.ShowNight h n) number = (number ≡ 2) × ((h < HUTS) × (n < NIGHTS) → ⊥)
 Hidden s (commands.Got m) number = GotRefused s (asked_mark m) number
 Hidden s (commands.Serve slip) number = ServeRefused s slip.all number
 Hidden s _ number = ⊥
@@ -54,7 +55,7 @@ Told was is c r = Shown is c r
 
 -- a letter that was typed: what came of it, unless it has more bytes than any letter, and is damaged
 abbrev pub TypedTold : List ℕ → Result Reply Unplayed → Type 0
-TypedTold bs r = r ≡ Ok (cond (nat_lt longest (length bs)) (replies.Line (answers.Take (Rejected Damaged))) replies.Takings)
+TypedTold bs r = r ≡ Ok (cond (nat_lt LETTER_ROOM (length bs)) (replies.Line (answers.Take (Rejected Damaged))) replies.Takings)
 
 -- by which number it is refused, and just when
 abbrev pub Denied : State → State → Command → ℕ → Type 0

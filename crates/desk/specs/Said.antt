@@ -2,6 +2,7 @@
 use Rattle.std.specs.Prelude.{ℕ, zero, suc, ◌+◌, ◌-◌, Bool, true, false, cond, List, [], ◌∷◌, ◌++◌, length, count_by, None, Some, Option, nat_lt}
 use Rattle.bookings.specs.Books.{PlainBook, book_of}
 use Rattle.bookings.specs.Plain.{PlainKind, book, cancel, change, supply, PlainEntry, plain_mark}
+use Rattle.bookings.specs.declared.limits.TheConstants.{HUTS, NIGHTS}
 use Rattle.bookings.specs.declared.refusal.Refusal.TheVariants.{Damaged, OutOfRange}
 use Rattle.console.specs.Answers.{answer_text, standing_of}
 use Rattle.console.specs.LetterAnswers.{letter_text}
@@ -69,10 +70,10 @@ nights_lines b hut (suc n) = nights_lines b hut n ++ line_if (noted_on b hut n)
 
 unfoldable pub huts_lines : PlainBook → ℕ → List ℕ
 huts_lines b zero = []
-huts_lines b (suc n) = huts_lines b n ++ nights_lines b n 366
+huts_lines b (suc n) = huts_lines b n ++ nights_lines b n NIGHTS
 
 abbrev pub book_lines : State → List ℕ
-book_lines s = huts_lines (book_of (all_of s.log)) 16 ++ line_of answers.EndOfBook
+book_lines s = huts_lines (book_of (all_of s.log)) HUTS ++ line_of answers.EndOfBook
 
 -- THE LOG
 

@@ -10,6 +10,7 @@ use Rattle.journal.specs.Keeping.{Moves, Fails}
 use Rattle.journal.specs.declared.keeper.Keeper.{Keeper}
 use Rattle.letters.specs.Items.{items_of}
 use Rattle.letters.specs.Letters.{encode_letter, read_letter}
+use Rattle.letters.specs.declared.limits.TheConstants.{LETTER_ROOM}
 use Rattle.network.specs.Effects.{commits_synced}
 use Rattle.network.specs.Taking.{letter_for, outcomes_of, plain_outcome, take_bytes, told_out}
 use Rattle.network.specs.declared.outcome.Outcome.{Outcome}
@@ -40,13 +41,9 @@ LineFinds finds commands.Ink bs k = FindsOf finds (commits k)
 LineFinds finds commands.Take bs k = FindsOf finds (take_bytes bs k)
 LineFinds finds _ bs k = FindsOf finds k
 
--- so many bytes has the longest letter
-abbrev pub longest : ℕ
-longest = 98345
-
 -- a letter that is typed; one with more bytes than any letter may have is not read
 abbrev pub takes_typed : List ℕ → Kept → Kept
-takes_typed bs k = cond (nat_lt longest (length bs)) k (take_bytes bs k)
+takes_typed bs k = cond (nat_lt LETTER_ROOM (length bs)) k (take_bytes bs k)
 
 -- what is shown is synced first, also where nothing is shown then but a refusal
 abbrev pub shows : Command → Kept → Kept
@@ -78,5 +75,5 @@ LineWrites page _ s = Unit
 -- how many entries of a letter that came were kept out, and what came of the others
 abbrev pub LineBrings : Option ℕ → List Outcome → Command → (letter : List ℕ) → Kept → Type 0
 LineBrings kept_out came commands.Take bs k =
-    length bs ≤ longest → (kept_out ≡ told_out (read_letter bs)) × (map plain_outcome came ≡ outcomes_of (items_of (read_letter bs)) k)
+    length bs ≤ LETTER_ROOM → (kept_out ≡ told_out (read_letter bs)) × (map plain_outcome came ≡ outcomes_of (items_of (read_letter bs)) k)
 LineBrings kept_out came _ bs k = Unit

@@ -4,6 +4,7 @@ ghost use Rattle.std.specs.Option.{option_map};
 ghost use Rattle.bookings.specs.Books.{book_of};
 ghost use Rattle.bookings.specs.Plain.{plain_mark};
 ghost use Rattle.bookings.specs.Refusals.{number_of};
+ghost use Rattle.bookings.specs.declared.limits.TheConstants.{HUTS, NIGHTS};
 ghost use Rattle.console.specs.Answers.{kind_name_of, standing_of};
 ghost use Rattle.console.specs.Requests.{asked_mark, raw_mark};
 ghost use Rattle.entry_log.specs.Logs.{all_of};
@@ -13,6 +14,7 @@ ghost use Rattle.desk.specs.Answers.{AskedOk, GotRefused, got_in, night_told, no
 
 use bookings::book::Night;
 use bookings::entry::{Entry, Mark};
+use bookings::limits::INITIAL_BEDS;
 use bookings::refusal::Refusal;
 use console::answer::starts::Opened;
 use console::answer::{Answer, Got, KindName, Standing};
@@ -24,22 +26,22 @@ use replica::replica::Replica;
 // A hut's beds on a night.
 pub fn night(replica: &Replica, hut: u64, night: u64) -> Result<Answer, Refusal>
     ensures { MatchResult result
-        (λ a. (hut < 16) × (night < 366) × (a ≡ night_told (book_of (all_of (state_of replica.now).log)) hut night))
-        (λ e. (number_of e ≡ 2) × ((hut < 16) × (night < 366) → ⊥)) }
+        (λ a. (hut < HUTS) × (night < NIGHTS) × (a ≡ night_told (book_of (all_of (state_of replica.now).log)) hut night))
+        (λ e. (number_of e ≡ 2) × ((hut < HUTS) × (night < NIGHTS) → ⊥)) }
 {
     let found = replica.night(hut, night)?;
     // The replica has refused what is out of range: `try_from` would add an error that cannot come.
     Ok(night_told(hut as u8, night as u16, &found))
 }
 
-// A hut's beds on a night, if there are other than 20 or any is booked.
+// A hut's beds on a night, if there are others than at first or any is booked.
 pub fn noted(replica: &Replica, hut: u8, night: u16) -> Option<Answer>
-    requires { (hut < 16) × (night < 366) }
+    requires { (hut < HUTS) × (night < NIGHTS) }
     ensures { result ≡ noted_on (book_of (all_of (state_of replica.now).log)) hut night }
 {
     // It is in range, as is required: no refusal is lost.
     let found = replica.night(u64::from(hut), u64::from(night)).ok()?;
-    if found.beds == 20 && found.booked == 0 {
+    if found.beds == INITIAL_BEDS && found.booked == 0 {
         return None;
     }
     Some(night_told(hut, night, &found))

@@ -14,6 +14,7 @@ use crate::calls::Desk;
 use crate::page::Page;
 use crate::reply::Reply;
 use bookings::entry::Entry;
+use bookings::limits::{HUTS, NIGHTS};
 use bookings::refusal::Refusal;
 use console::answer::Answer;
 use console::answer::letter::Letter;
@@ -127,18 +128,18 @@ fn taking(outcome: &Outcome) -> Taking
 
 // The nights of a hut that are not as at first.
 fn say_nights<W: Write>(out: &mut W, replica: &Replica, hut: u8) -> io::Result<()>
-    requires { hut < 16 }
-    ensures { OnOk result (Appends (W.contents out.old) (W.contents out.new) (nights_lines (book_of (all_of (state_of replica.now).log)) hut 366)) }
+    requires { hut < HUTS }
+    ensures { OnOk result (Appends (W.contents out.old) (W.contents out.new) (nights_lines (book_of (all_of (state_of replica.now).log)) hut NIGHTS)) }
 {
-    for night in 0..366 {
+    for night in 0..NIGHTS as u16 {
         say_night(out, replica, hut, night)?;
     }
     Ok(())
 }
 
 fn say_night<W: Write>(out: &mut W, replica: &Replica, hut: u8, night: u16) -> io::Result<()>
-    requires hut { hut < 16 }
-    requires night { night < 366 }
+    requires hut { hut < HUTS }
+    requires night { night < NIGHTS }
     ensures { OnOk result (Appends (W.contents out.old) (W.contents out.new) (line_if (noted_on (book_of (all_of (state_of replica.now).log)) hut night))) }
 {
     match answers::noted(replica, hut, night) {
@@ -148,9 +149,9 @@ fn say_night<W: Write>(out: &mut W, replica: &Replica, hut: u8, night: u16) -> i
 }
 
 fn say_huts<W: Write>(out: &mut W, replica: &Replica) -> io::Result<()>
-    ensures { OnOk result (Appends (W.contents out.old) (W.contents out.new) (huts_lines (book_of (all_of (state_of replica.now).log)) 16)) }
+    ensures { OnOk result (Appends (W.contents out.old) (W.contents out.new) (huts_lines (book_of (all_of (state_of replica.now).log)) HUTS)) }
 {
-    for hut in 0..16 {
+    for hut in 0..HUTS as u8 {
         say_nights(out, replica, hut)?;
     }
     Ok(())

@@ -3,6 +3,7 @@ ghost use Rattle.std.specs.Prelude.{◌≡◌, ◌-◌, ◌<◌, ◌≤◌, ℕ,
 ghost use Rattle.std.specs.Option.{option_map};
 ghost use Rattle.bookings.specs.Plain.{plain_kind, plain_mark};
 ghost use Rattle.bookings.specs.Refusals.{number_of};
+ghost use Rattle.bookings.specs.declared.limits.TheConstants.{HUTS};
 ghost use Rattle.desk.specs.Composed.{LedOn};
 ghost use Rattle.desk.specs.Failures.{Undone, Unwritten};
 ghost use Rattle.desk.specs.Steps.{Leaves, Rests};
@@ -72,8 +73,8 @@ impl<M: Medium + Drop> Station<Appender<M>> {
     // Opens the journal of a hut on a medium, on which these bytes were found after a stop. What is behind the last record that can stand is cut off.
     pub fn open(heap: Global, hut: u8, medium: M, found: &[u8]) -> Result<Opening<M>, NotOpened>
         ensures answer { MatchResult result
-            (λ o. (hut < 16) × (o.cut ≡ length found.now - length (bytes_of (history_in hut found.now))))
-            (λ e. elim e [ NoMemory ↦ Unit {0} | NoHut w ↦ (number_of w ≡ 2) × (16 ≤ hut) | Broken f ↦ Unit {0} ]) }
+            (λ o. (hut < HUTS) × (o.cut ≡ length found.now - length (bytes_of (history_in hut found.now))))
+            (λ e. elim e [ NoMemory ↦ Unit {0} | NoHut w ↦ (number_of w ≡ 2) × (HUTS ≤ hut) | Broken f ↦ Unit {0} ]) }
         ensures network { (m : Mail) → Runs m → FoundOf (m.hut hut) found.now → M.Medium.holds medium found.now (length (bytes_of (m.hut hut).durable)) → MatchResult result
             (λ o. LedOn (InStep (λ j bs n. (is_shut j.phase ≡ false) × M.Medium.holds j.medium bs n × (is_synced j.phase ≡ true → n ≡ length bs)) o.station.keeper) hut m (λ n. n ≡ keeping hut (reopened found.now (m.hut hut)) m))
             (λ _. Unit {0}) }

@@ -2,6 +2,7 @@
 use Rattle.std.specs.Prelude.{◌≡◌, ℕ, ◌+◌, ◌*◌, ◌%◌, ◌<◌, ◌≤◌, List, [], ◌∷◌, length, codes, slice_index}
 use Rattle.std.specs.List.{flat_map}
 use Rattle.digest.specs.Sha256.{bytes4, zeros, padded, word_at, next_word, schedule_of, digest_of}
+use Rattle.digest.specs.declared.TheConstants.{DIGEST_BYTES}
 
 -- 5.1.1: a padded message is whole blocks, and its zeros are the fewest that leave eight bytes of the last block
 abbrev pub PaddingFits : Type 0
@@ -29,6 +30,6 @@ Published =
     × (digest_of (codes "abcdefghbcdefghicdefghijdefghijkefghijklfghijklmghijklmnhijklmnoijklmnopjklmnopqklmnopqrlmnopqrsmnopqrstnopqrstu")
     ≡ flat_map bytes4 (0xcf5b16a7 ∷ 0x78af8380 ∷ 0x036ce59e ∷ 0x7b049237 ∷ 0x0b249b11 ∷ 0xe8f07a51 ∷ 0xafac4503 ∷ 0x7afee9d1 ∷ []))
 
--- a digest is 32 bytes
+-- how long a digest is
 abbrev pub DigestLong : Type 0
-DigestLong = (m : List ℕ) → length (digest_of m) ≡ 32
+DigestLong = (m : List ℕ) → length (digest_of m) ≡ DIGEST_BYTES

@@ -3,6 +3,7 @@ ghost use Rattle.std.specs.Prelude.{◌≡◌, ℕ, ◌-◌, ◌%◌, ◌^◌, �
 ghost use Rattle.digest.specs.Sha256.{bytes8, padding, absorbed, initial, digest_of};
 ghost use Rattle.digest.specs.Progress.{Cut};
 
+use crate::DIGEST_BYTES;
 use crate::rounds::compress;
 use crate::words::to_bytes;
 
@@ -58,7 +59,7 @@ impl Tail<'_> {
     }
 
     // The digest of the message, which has `count` bytes.
-    pub(crate) fn finished(self, count: u64) -> [u8; 32]
+    pub(crate) fn finished(self, count: u64) -> [u8; DIGEST_BYTES]
         ensures { (m : List ℕ) → Cut initial m self.entry.state self.entry.rest.now → count ≡ length m % 2 ^ 64 → result ≡ digest_of m }
     {
         to_bytes(self.last_blocks(count.wrapping_mul(8)))

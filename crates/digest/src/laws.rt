@@ -16,7 +16,7 @@ pub fn examples_stand()
     ensures { Published }
 {}
 
-// A digest is 32 bytes, of whatever message.
+// A digest has DIGEST_BYTES bytes, of whatever message.
 pub fn digest_long()
     ensures { DigestLong }
 {}

@@ -17,8 +17,11 @@ mod words;
 
 pub use hasher::Hasher;
 
+/// The bytes of a digest.
+pub const DIGEST_BYTES: usize = 32;
+
 // The digest of a message.
-pub fn sha256(message: &[u8]) -> [u8; 32]
+pub fn sha256(message: &[u8]) -> [u8; DIGEST_BYTES]
     ensures { result ≡ digest_of message.now }
 {
     // No `From` goes from `usize` to `u64`; the check proves that nothing is lost.

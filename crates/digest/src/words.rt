@@ -4,6 +4,8 @@ ghost use Rattle.std.specs.List.{flat_map};
 ghost use Rattle.digest.specs.Sha256.{ch_of, maj_of, big_sigma0, big_sigma1, small_sigma0, small_sigma1};
 ghost use Rattle.digest.specs.Sha256.{bytes4};
 
+use crate::DIGEST_BYTES;
+
 pub(crate) fn ch(x: u32, y: u32, z: u32) -> u32
     ensures { result ≡ ch_of x y z }
 {
@@ -42,10 +44,10 @@ pub(crate) fn small_sigma1(x: u32) -> u32
 }
 
 // The bytes of a state's eight words.
-pub(crate) fn to_bytes(state: [u32; 8]) -> [u8; 32]
+pub(crate) fn to_bytes(state: [u32; 8]) -> [u8; DIGEST_BYTES]
     ensures { result ≡ flat_map bytes4 state }
 {
-    let mut out = [0u8; 32];
+    let mut out = [0u8; DIGEST_BYTES];
     out.copy_from_slice(state.map(u32::to_be_bytes).as_flattened());
     out
 }

@@ -3,6 +3,7 @@ use Rattle.std.proofs.Common.{◌≡◌, ℕ, zero, suc, ◌<◌, max, Bool, tru
 use Rattle.bookings.proofs.Over.{length_over, over-inside}
 use Rattle.std.specs.List.{list_all, zip}
 use Rattle.bookings.specs.Nights.{over}
+use Rattle.bookings.specs.declared.limits.TheConstants.{HUTS}
 use Rattle.entry_log.specs.Vectors.{covers_from, covers, joined_with}
 
 -- a hut in front makes no difference behind it
@@ -22,18 +23,18 @@ all_from (x ∷ a) (y ∷ b) (suc n) many_a many-b = both (leb y x) (all_from a 
     both true e = e
     both false e = refl
 
-pub all_covered : (a b : List ℕ) → length a ≡ 16 → length b ≡ 16 → list_all (λ p. leb p.1 p.0) (zip a b) ≡ covers a b
+pub all_covered : (a b : List ℕ) → length a ≡ HUTS → length b ≡ HUTS → list_all (λ p. leb p.1 p.0) (zip a b) ≡ covers a b
 unfolding covers
-all_covered a b many_a many-b = all_from a b 16 many_a many-b
+all_covered a b many_a many-b = all_from a b HUTS many_a many-b
 
 -- the higher of two stamps, hut by hut
 pub joined_is :
-    (out a b : List ℕ) → length out ≡ 16 → length a ≡ 16
-    → ((h : ℕ) → h < 16 → get_or out h 0 ≡ max (get_or a h 0) (get_or b h 0)) → out ≡ joined_with a b
+    (out a b : List ℕ) → length out ≡ HUTS → length a ≡ HUTS
+    → ((h : ℕ) → h < HUTS → get_or out h 0 ≡ max (get_or a h 0) (get_or b h 0)) → out ≡ joined_with a b
 unfolding joined_with
 joined_is out a b long-out long-a each =
     let f = λ (h s : ℕ). max s (get_or b h 0) in
-    ext_get_or 0 out (over f a 0 16) (long-out ∙ sym (length_over f a 0 16 ∙ long-a))
+    ext_get_or 0 out (over f a 0 HUTS) (long-out ∙ sym (length_over f a 0 HUTS ∙ long-a))
     (λ h in-out.
-    let in-huts : h < 16 = omega arith in
-    each h in-huts ∙ sym (over-inside f a 0 16 h (omega arith) (omega arith) in-huts))
+    let in-huts : h < HUTS = omega arith in
+    each h in-huts ∙ sym (over-inside f a 0 HUTS h (omega arith) (omega arith) in-huts))

@@ -4,6 +4,7 @@ use Rattle.std.proofs.lemmas.List.FromFn.{length-map-range_with_len, get_or-map-
 use Rattle.std.proofs.lemmas.List.{same_lists, get_or_default, get_or-set_same, get_or-set_other}
 use Rattle.std.proofs.lemmas.Bool.{cases_eq, cases_Bool, cond_both, eq-eqb, ne_eqb, le-ltb}
 use Rattle.bookings.specs.Plain.{PlainMark, PlainEntry}
+use Rattle.bookings.specs.declared.limits.TheConstants.{HUTS}
 use Rattle.entry_log.specs.Logs.{top, into, has, without}
 use Rattle.entry_log.proofs.Putting.{without_none}
 use Rattle.bookings.proofs.Find.{same_is}
@@ -42,27 +43,27 @@ highest-append [] ys h = omega arith
 highest-append (x ∷ xs) ys h = let rest = highest-append xs ys h in omega (arith, highest-cons x (xs ++ ys) h, highest-cons x xs h)
 
 -- the vector, hut by hut
-pub vector_at : (es : List PlainEntry) (h : ℕ) → h < 16 → get_or (vector_of es) h 0 ≡ highest es h
+pub vector_at : (es : List PlainEntry) (h : ℕ) → h < HUTS → get_or (vector_of es) h 0 ≡ highest es h
 unfolding vector_of
-vector_at es h in-huts = get_or-map-range_with_len (highest es) 0 16 h h 0 in-huts (omega arith)
+vector_at es h in-huts = get_or-map-range_with_len (highest es) 0 HUTS h h 0 in-huts (omega arith)
 
-pub vector_long : (es : List PlainEntry) → length (vector_of es) ≡ 16
+pub vector_long : (es : List PlainEntry) → length (vector_of es) ≡ HUTS
 unfolding vector_of
-vector_long es = length-map-range_with_len (highest es) 0 16
+vector_long es = length-map-range_with_len (highest es) 0 HUTS
 
 pub vector_none : no_stamps ≡ vector_of []
 unfolding vector_of no_stamps
 vector_none = refl
 
 -- two vectors that are alike hut by hut
-vectors_same : (v w : List ℕ) → length v ≡ 16 → length w ≡ 16 → ((h : ℕ) → h < 16 → get_or v h 0 ≡ get_or w h 0) → v ≡ w
+vectors_same : (v w : List ℕ) → length v ≡ HUTS → length w ≡ HUTS → ((h : ℕ) → h < HUTS → get_or v h 0 ≡ get_or w h 0) → v ≡ w
 vectors_same v w long-v long-w each =
     same_lists v w (long-v ∙ sym long-w)
     (λ k d h. get_or_default v k d 0 h ∙ each k (omega arith) ∙ get_or_default w k 0 d (omega arith))
 
 -- with an entry more, wherever it stands
 pub vector_more :
-    (es fs : List PlainEntry) (e : PlainEntry) → e.mark.hut < 16 → ((h : ℕ) → highest fs h ≡ highest (e ∷ es) h) → noted e.mark (vector_of es) ≡ vector_of fs
+    (es fs : List PlainEntry) (e : PlainEntry) → e.mark.hut < HUTS → ((h : ℕ) → highest fs h ≡ highest (e ∷ es) h) → noted e.mark (vector_of es) ≡ vector_of fs
 vector_more es fs e in-huts more =
     vectors_same _ _ (length-set (vector_of es) e.mark.hut _ ∙ vector_long es) (vector_long fs)
     (λ h h-in.

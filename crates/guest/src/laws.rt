@@ -6,7 +6,7 @@ pub fn one_form()
     ensures { OneForm }
 {}
 
-// All slips have 64 bytes.
+// All slips have `SLIP_BYTES` bytes.
 pub fn one_length()
     ensures { Length }
 {}

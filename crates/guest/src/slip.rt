@@ -5,13 +5,15 @@ ghost use Rattle.entry_log.specs.Vectors.{no_stamps, covers, joined_with};
 ghost use Rattle.guest.specs.Slips.{slip_bytes};
 ghost use Rattle.letters.specs.Format.{number_of_four};
 
+use bookings::limits::HUTS;
 use bookings::refusal::Refusal;
 use entry_log::vector::Vector;
+use letters::limits::VECTOR_BYTES;
 use std::alloc::{AllocError, Global};
 use thiserror::Error;
 
-// Sixteen stamps of 4 bytes.
-pub const SLIP_BYTES: usize = 64;
+/// The bytes of a slip, which is a vector.
+pub const SLIP_BYTES: usize = VECTOR_BYTES;
 
 #[derive(Clone, Copy, PartialEq, Eq)]
 pub struct Slip {
@@ -19,7 +21,7 @@ pub struct Slip {
 }
 
 #[derive(Clone, Copy, Debug, PartialEq, Eq, Error)]
-#[error("a slip has 64 bytes")]
+#[error("a slip has {bytes} bytes", bytes = SLIP_BYTES)]
 pub struct WrongLength;
 
 // The stamp of a hut, among the bytes of a slip.
@@ -45,13 +47,13 @@ impl Slip {
     pub fn read(bytes: &[u8]) -> Result<Slip, WrongLength>
         ensures { MatchResult result
             (λ s. slip_bytes s.known.stamps ≡ bytes.now)
-            (λ _. length bytes.now ≢ 64) }
+            (λ _. length bytes.now ≢ SLIP_BYTES) }
     {
         if bytes.len() != SLIP_BYTES {
             return Err(WrongLength);
         }
-        let mut stamps = [0; 16];
-        for hut in 0..16 {
+        let mut stamps = [0; HUTS];
+        for hut in 0..HUTS {
             stamps[hut] = stamp_at(bytes, hut);
         }
         Ok(Slip {

@@ -1,6 +1,8 @@
 -- A replica and its journal stay in step: a record more, and a sync.
 use Rattle.std.proofs.Common.{◌≡◌, ℕ, ◌+◌, ◌*◌, ◌≤◌, true, cond, List, [], ◌∷◌, ◌++◌, length, None, Option, sym, ap, ◌∙◌, subst, arith, length-append}
 use Rattle.bookings.specs.Plain.{PlainMark, PlainKind, PlainEntry}
+use Rattle.bookings.specs.declared.book.TheConstants.{CAPACITY}
+use Rattle.journal.specs.declared.limits.TheConstants.{RECORD_ROOM}
 use Rattle.letters.specs.Laws.{EntryOk}
 use Rattle.entry_log.specs.Logs.{all_of, first_entry}
 use Rattle.replica.specs.Model.{State, entry_made, made, next_mark, is_primary, make_refusal, take_tentative_refusal, take_committed_refusal}
@@ -11,8 +13,8 @@ use Rattle.journal.proofs.RecordForms.{record_small}
 use Rattle.journal.proofs.Replaying.{with_one_more}
 use Rattle.journal.proofs.Standing.{records_few, make-stands}
 
--- no record takes more than 33 bytes
-bytes-few : (hut : ℕ) (rs : List PlainRecord) → Stands hut rs → length (bytes_of rs) ≤ 33 * length rs
+-- no record takes more than its room
+bytes-few : (hut : ℕ) (rs : List PlainRecord) → Stands hut rs → length (bytes_of rs) ≤ RECORD_ROOM * length rs
 bytes-few hut [] ok = omega arith
 bytes-few hut (r ∷ rs) ok = omega (arith, bytes-few hut rs ok.2, record_small r ok.0.ranged, length-append (bytes_of rs) (encode_record r))
 
@@ -31,11 +33,11 @@ module _ (had has : List ℕ → ℕ → Type 0) (s t : State) (k : Kept) (in_st
       }
 
   -- it is within the bytes that a history can ever need
-  pub record_fits : (r : PlainRecord) → EntryOk (entry_of r) → Follows r s t → length (all_of t.log) ≤ 65536 → length (bytes_of (history_of k)) + length (encode_record r) ≤ most_bytes
+  pub record_fits : (r : PlainRecord) → EntryOk (entry_of r) → Follows r s t → length (all_of t.log) ≤ CAPACITY → length (bytes_of (history_of k)) + length (encode_record r) ≤ most_bytes
   record_fits r ok next few =
       let below =
       records_few k.hut r (history_of k) in_step.stands (ap (replay_refusal r) (sym in_step.state) ∙ next.0)
-      (subst (λ (x : State). length (all_of x.log) ≤ 65536) (follows_state r next) few) in
+      (subst (λ (x : State). length (all_of x.log) ≤ CAPACITY) (follows_state r next) few) in
       omega (arith, record_small r ok.ranged, bytes-few k.hut (history_of k) in_step.stands, below)
 
   -- all is synced

@@ -3,6 +3,7 @@ use Rattle.std.proofs.Common.{◌≡◌, ℕ, ◌<◌, ◌≤◌, eqb, [], ◌�
 use Rattle.bookings.specs.Plain.{PlainEntry}
 use Rattle.bookings.specs.Ranges.{InRange}
 use Rattle.bookings.proofs.Ranged.{in_range}
+use Rattle.journal.specs.declared.limits.TheConstants.{RECORD_ROOM}
 use Rattle.letters.specs.Format.{encode, read_one, reads}
 use Rattle.letters.specs.Laws.{EntryOk}
 use Rattle.letters.proofs.Codes.{Codes, codes_then, codes_map}
@@ -38,8 +39,8 @@ exact_record =
     at : (n k : ℕ) (kind : PlainEntry → PlainRecord) → n ≡ k → Exact (k ∷ []) (read_entry_as kind) encode_record RecordOk → Exact (n ∷ []) (read_entry_as kind) encode_record RecordOk
     at n k kind is one = subst (λ j. Exact (j ∷ []) (read_entry_as kind) encode_record RecordOk) (sym is) one
 
--- no record takes more than 33 bytes, and each takes one at least
-pub record_small : (r : PlainRecord) → InRange (entry_of r) → length (encode_record r) ≤ 33
+-- no record takes more than its room, and each takes one at least
+pub record_small : (r : PlainRecord) → InRange (entry_of r) → length (encode_record r) ≤ RECORD_ROOM
 record_small (Tentative e) ok = omega (arith, entry_small_lem e ok)
 record_small (Committed e) ok = omega (arith, entry_small_lem e ok)
 

@@ -4,6 +4,8 @@ use Rattle.std.proofs.lemmas.Bool.{cases_Bool, eq-eqb, eqb-true, not-false, or_p
 use Rattle.bookings.specs.Books.{named_by, same_mark}
 use Rattle.bookings.specs.Plain.{PlainMark, PlainKind, PlainEntry}
 use Rattle.bookings.proofs.Find.{same_is}
+use Rattle.bookings.specs.declared.book.TheConstants.{CAPACITY}
+use Rattle.bookings.specs.declared.limits.TheConstants.{HUTS}
 use Rattle.entry_log.specs.Logs.{PlainLog, all_of, has, first_entry, add_tentative, into}
 use Rattle.entry_log.specs.Order.{Once, times}
 use Rattle.entry_log.specs.Vectors.{vector_of, covers, covers_from, no_stamps}
@@ -16,6 +18,7 @@ use Rattle.replica.proofs.Taking.{tentative-length}
 use Rattle.journal.specs.History.{PlainRecord, Tentative, Committed, log_of, state_with}
 use Rattle.journal.specs.Keeping.{most_records}
 use Rattle.journal.specs.Records.{replay_refusal, Stands}
+use Rattle.replica.specs.declared.head.TheConstants.{LAST_STAMP}
 
 -- a refusal that comes first is not made
 past : (b : Bool) (n : ℕ) (rest : Option ℕ) → cond b (Some n) rest ≡ None → (b ≡ false) × (rest ≡ None)
@@ -37,7 +40,7 @@ covers-zeros v h (suc n) k = rw (zero-at k h, le-leb 0 (get_or v h 0) (omega ari
 
 covers_none : (v : List ℕ) → covers v no_stamps ≡ true
 unfolding covers no_stamps
-covers_none v = covers-zeros v 0 16 16
+covers_none v = covers-zeros v 0 HUTS HUTS
 
 -- a tentative entry that is new and has room
 tentative-stands : (e : PlainEntry) (s : State) → has e.mark (all_of s.log) ≡ false → no_room s e.mark.stamp ≡ false → replay_refusal (Tentative e) s ≡ None
@@ -121,8 +124,8 @@ records_counted hut (Committed e ∷ rs) ok =
       | inr f ↦ omega (arith, before, more, new_length e (log_of rs) f)
     ]
 
-room_below : (s : State) (stamp : ℕ) → no_room s stamp ≡ false → length (all_of s.log) < 65536
-room_below s stamp room = leb-false 65536 (length (all_of s.log)) (or_parts (leb 65536 (length (all_of s.log))) (leb 4294967295 stamp) room).0
+room_below : (s : State) (stamp : ℕ) → no_room s stamp ≡ false → length (all_of s.log) < CAPACITY
+room_below s stamp room = leb-false CAPACITY (length (all_of s.log)) (or_parts (leb CAPACITY (length (all_of s.log))) (leb LAST_STAMP stamp) room).0
 
 -- no record takes an entry out of the log
 log_grows : (hut : ℕ) (r : PlainRecord) (rs : List PlainRecord) → Stands hut rs → length (all_of (log_of rs)) ≤ length (all_of (log_of (r ∷ rs)))
@@ -141,7 +144,7 @@ unknown_room e s new q = (past (no_room s e.mark.stamp) 8 None (unknown new (aft
     unknown f after = rw f at after
 
 -- a history that can stand has no more entries than a replica can have
-pub log_bounded : (hut : ℕ) (rs : List PlainRecord) → Stands hut rs → length (all_of (log_of rs)) ≤ 65536
+pub log_bounded : (hut : ℕ) (rs : List PlainRecord) → Stands hut rs → length (all_of (log_of rs)) ≤ CAPACITY
 log_bounded hut [] ok = omega arith
 log_bounded hut (Tentative e ∷ rs) ok =
     let room = tentative_room e no_stamps (state_with hut rs) ok.1 in
@@ -154,7 +157,7 @@ log_bounded hut (Committed e ∷ rs) ok =
 
 -- there is room for a record that can stand
 pub records_few :
-    (hut : ℕ) (r : PlainRecord) (rs : List PlainRecord) → Stands hut rs → replay_refusal r (state_with hut rs) ≡ None → length (all_of (log_of (r ∷ rs))) ≤ 65536 → length rs < most_records
+    (hut : ℕ) (r : PlainRecord) (rs : List PlainRecord) → Stands hut rs → replay_refusal r (state_with hut rs) ≡ None → length (all_of (log_of (r ∷ rs))) ≤ CAPACITY → length rs < most_records
 records_few hut (Tentative e) rs ok q few =
     let room = tentative_room e no_stamps (state_with hut rs) q in
     omega (arith, records_counted hut rs ok, length-append (log_of rs).committed (log_of rs).tentative, room_below (state_with hut rs) e.mark.stamp room)

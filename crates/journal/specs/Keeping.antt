@@ -1,5 +1,6 @@
 -- A replica and its journal in step, and what a call does to both.
 use Rattle.std.specs.Prelude.{◌≡◌, ℕ, ◌+◌, true, false, List, length, take, None, vec_items}
+use Rattle.journal.specs.declared.limits.TheConstants.{MAX_JOURNAL_BYTES, MAX_RECORDS}
 use Rattle.replica.specs.Model.{State}
 use Rattle.replica.specs.Views.{state_of}
 use Rattle.journal.specs.declared.keeper.Keeper.{Keeper}
@@ -37,12 +38,12 @@ Fails keeps finds before after step = (k : Kept) → InStep keeps before k → F
 abbrev pub state_by : {J : Type 0} → Keeper J → State
 state_by q = state_of q.replica
 
--- each entry is written twice at most, in 33 bytes at most
+-- how many records there can be, and how many bytes of them
 abbrev pub most_records : ℕ
-most_records = 131072
+most_records = MAX_RECORDS
 
 abbrev pub most_bytes : ℕ
-most_bytes = 4325376
+most_bytes = MAX_JOURNAL_BYTES
 
 -- what a journal in memory has: it is open, these are its bytes, and so many of them are synced
 abbrev pub InMemory : Appender Memory → List ℕ → ℕ → Type 0

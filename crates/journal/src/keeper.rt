@@ -1,5 +1,6 @@
 // A replica over its journal.
 ghost use Rattle.std.specs.Prelude.{◌≤◌, vec_capacity};
+ghost use Rattle.journal.specs.declared.limits.TheConstants.{RECORD_ROOM};
 
 use replica::replica::Replica;
 
@@ -15,5 +16,5 @@ pub struct Keeper<J> {
     pub(crate) journal: J,
     // One record's bytes; the room for them is reserved once.
     pub(crate) line: Vec<u8>,
-    ghost room: { 33 ≤ vec_capacity line },
+    ghost room: { RECORD_ROOM ≤ vec_capacity line },
 }

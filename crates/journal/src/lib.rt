@@ -7,6 +7,7 @@ pub mod fault;
 pub mod journal;
 pub mod keeper;
 pub mod laws;
+pub mod limits;
 pub mod medium;
 pub mod memory;
 mod open;

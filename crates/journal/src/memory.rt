@@ -4,11 +4,9 @@ ghost use Rattle.std.proofs.Common.{rules};
 ghost use Rattle.journal.specs.Finding.{Found};
 
 use crate::fault::Fault;
+pub use crate::limits::JOURNAL_ROOM;
 use crate::medium::Medium;
 use std::alloc::{AllocError, Global};
-
-// With this room a journal in memory never fails: 131,072 records, two for each entry, of 33 bytes, and one byte.
-pub const JOURNAL_ROOM: usize = 4325377;
 
 #[derive(Drop)]
 pub struct Memory {

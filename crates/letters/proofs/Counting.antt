@@ -6,6 +6,8 @@ use Rattle.std.proofs.lemmas.List.{take-append-drop}
 use Rattle.bookings.specs.Plain.{PlainEntry}
 use Rattle.bookings.specs.Ranges.{Each}
 use Rattle.entry_log.specs.Waits.{PlainWaiting}
+use Rattle.entry_log.specs.declared.waiting.TheConstants.{MAX_LETTER_ENTRIES}
+use Rattle.digest.specs.declared.TheConstants.{DIGEST_BYTES}
 use Rattle.letters.specs.Answers.{Answer, got, short, out}
 use Rattle.letters.specs.Counting.{CountsAddUp, Says}
 use Rattle.letters.specs.Format.{encode, two, four, read_two, read_four, reads}
@@ -19,6 +21,7 @@ use Rattle.letters.proofs.OneEntry.{exact_entry}
 use Rattle.letters.proofs.OneForm.{exact_four, exact_two}
 use Rattle.letters.proofs.OneLetter.{bytes_take, exact_waiting, three_parts}
 use Rattle.letters.proofs.RowCodes.{row_exact, row-stopped_some}
+use Rattle.letters.specs.declared.limits.TheConstants.{EMPTY_LETTER_BYTES}
 
 -- a row that stops: what stands before the first that is out of range, in its one form, and how
 -- many are kept out
@@ -103,7 +106,7 @@ module _ (p : ℕ) (cs : List PlainEntry) (ws : List PlainWaiting) (k : ℕ) whe
   abbrev BodySays : List ℕ → ℕ → Type 0
   BodySays bs said =
       (n : ℕ) × (rest : List ℕ) × (bs ≡ two n ++ (four p ++ (flat_map encode cs ++ rest)))
-      × (said ≤ 1024)
+      × (said ≤ MAX_LETTER_ENTRIES)
       × (((length cs < n) × (ws ≡ []) × (said ≡ n))
       ⊎ ((m : ℕ) × (more : List ℕ) × (rest ≡ two m ++ more) × (length cs ≡ n) × (said ≡ n + m)))
 
@@ -122,7 +125,7 @@ module _ (p : ℕ) (cs : List PlainEntry) (ws : List PlainWaiting) (k : ℕ) whe
 
   committed-counted :
       (n q : ℕ) (bs r s : List ℕ) → bs ≡ two n ++ r → r ≡ four q ++ s → q < 2 ^ 32 → Bytes s
-      → n ≤ 1024
+      → n ≤ MAX_LETTER_ENTRIES
       → (row : Row PlainEntry) → read_row reads n s ≡ row → Is (from_committed n q row) → Counted bs
   committed-counted n q bs r s a b low bytes small (whole es t) is h =
       let c = row_exact reads encode EntryOk exact_entry n s es t bytes is in
@@ -130,9 +133,9 @@ module _ (p : ℕ) (cs : List PlainEntry) (ws : List PlainWaiting) (k : ℕ) whe
       let m = count.0 in
       let u = count.1.0 in
       let d = exact_two t m u c.1.1 count.1.1.0 in
-      let few = unless-damaged p cs ws k (ltb 1024 (n + m)) _ count.1.1.1 in
+      let few = unless-damaged p cs ws k (ltb MAX_LETTER_ENTRIES (n + m)) _ count.1.1.1 in
       let last = tentative-counted q m es u d.1.1 (read_row read_waiting m u) refl few.1 in
-      let most = ltb-false 1024 (n + m) few.0 in
+      let most = ltb-false MAX_LETTER_ENTRIES (n + m) few.0 in
       let all = ap (λ (l : List PlainEntry). length l) last.1 in (
         record {
           place_ok = subst (λ x. x < 2 ^ 32) last.0 low;
@@ -196,8 +199,8 @@ module _ (p : ℕ) (cs : List PlainEntry) (ws : List PlainWaiting) (k : ℕ) whe
       let q = next.0 in
       let s = next.1.0 in
       let b = exact_four r q s a.1.1 next.1.1.0 in
-      let small = unless-damaged p cs ws k (ltb 1024 n) _ next.1.1.1 in
-      committed-counted n q bs r s a.0 b.0 b.1.0 b.1.1 (ltb-false 1024 n small.0)
+      let small = unless-damaged p cs ws k (ltb MAX_LETTER_ENTRIES n) _ next.1.1.1 in
+      committed-counted n q bs r s a.0 b.0 b.1.0 b.1.1 (ltb-false MAX_LETTER_ENTRIES n small.0)
       (read_row reads n s) refl small.1
 
   -- the same of the whole letter, with its digest behind
@@ -219,24 +222,24 @@ module _ (p : ℕ) (cs : List PlainEntry) (ws : List PlainWaiting) (k : ℕ) whe
 
 pub counts_add_up : CountsAddUp
 counts_add_up bs p cs ws k bytes h =
-    let long = unless-damaged p cs ws k (ltb (length bs) 41) _ h in
+    let long = unless-damaged p cs ws k (ltb (length bs) EMPTY_LETTER_BYTES) _ h in
     let first = if_heard p cs ws k (eqb (get_or bs 0 0) 66) _ long.1 in
     let sum = if_heard p cs ws k (signed bs) _ first.1 in
-    let mid = take (length bs - 33) (drop 1 bs) in
-    let front = three_parts bs (ltb-false (length bs) 41 long.0) in
+    let mid = take (length bs - (1 + DIGEST_BYTES)) (drop 1 bs) in
+    let front = three_parts bs (ltb-false (length bs) EMPTY_LETTER_BYTES long.0) in
     let body =
-    body-counted p cs ws k mid (bytes_take (length bs - 33) (drop 1 bs) (bytes_drop 1 bs bytes))
+    body-counted p cs ws k mid (bytes_take (length bs - (1 + DIGEST_BYTES)) (drop 1 bs) (bytes_drop 1 bs bytes))
     sum.1 in
-    let head : take (length bs - 32) bs ≡ 66 ∷ mid =
+    let head : take (length bs - DIGEST_BYTES) bs ≡ 66 ∷ mid =
     sym front ∙ ap (λ b. b ∷ mid) (eqb-true (get_or bs 0 0) 66 first.0) in
-    let is : (66 ∷ mid) ++ drop (length bs - 32) bs ≡ bs =
-    ap (λ (x : List ℕ). x ++ drop (length bs - 32) bs) (sym head)
-    ∙ take-append-drop (length bs - 32) bs in (
+    let is : (66 ∷ mid) ++ drop (length bs - DIGEST_BYTES) bs ≡ bs =
+    ap (λ (x : List ℕ). x ++ drop (length bs - DIGEST_BYTES) bs) (sym head)
+    ∙ take-append-drop (length bs - DIGEST_BYTES) bs in (
       body.0,
       (
         body.1.0,
         subst (λ (x : List ℕ). Says x p cs ws body.1.0) is
-            (with_digest p cs ws k mid (drop (length bs - 32) bs) body.1.0 body.1.1),
+            (with_digest p cs ws k mid (drop (length bs - DIGEST_BYTES) bs) body.1.0 body.1.1),
         body.1.2,
       ),
     )

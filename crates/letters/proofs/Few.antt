@@ -1,5 +1,8 @@
--- Whatever the bytes are, no more than 1,024 entries are heard.
+-- Whatever the bytes are, no more entries are heard than a letter can have.
 use Rattle.std.proofs.Common.{◌≡◌, ℕ, zero, suc, ◌+◌, ◌-◌, ◌≤◌, eqb, ltb, List, [], ◌∷◌, map, length, get_or, take, drop, refl, arith, length-append}
+use Rattle.digest.specs.declared.TheConstants.{DIGEST_BYTES}
+use Rattle.entry_log.specs.declared.waiting.TheConstants.{MAX_LETTER_ENTRIES}
+use Rattle.letters.specs.declared.limits.TheConstants.{EMPTY_LETTER_BYTES}
 use lib.ListN.{length-map}
 use Rattle.std.proofs.lemmas.Bool.{cond_both, ltb-false}
 use Rattle.bookings.specs.Plain.{PlainEntry}
@@ -31,7 +34,7 @@ row-few {A} read (suc n) bs = first (row-few read n) (read bs)
     first few out = omega arith
 
 abbrev Few : Heard → Type 0
-Few h = length (items_of h) ≤ 1024
+Few h = length (items_of h) ≤ MAX_LETTER_ENTRIES
 
 length_placed : (p : ℕ) (es : List PlainEntry) → length (placed_from p es) ≡ length es
 length_placed p [] = refl
@@ -47,29 +50,29 @@ number-few out f each = omega arith
 
 tentative-few : (n p : ℕ) (cs : List PlainEntry) → length cs ≤ n → (m : ℕ) (bs : List ℕ) → Few (read_tentative n p cs m bs)
 tentative-few n p cs few m bs =
-    cond_both (ltb 1024 (n + m)) damaged (from_tentative p cs (read_row read_waiting m bs)) Few (λ _. omega arith)
-    (λ off. rows (read_row read_waiting m bs) (row-few read_waiting m bs) (ltb-false 1024 (n + m) off))
+    cond_both (ltb MAX_LETTER_ENTRIES (n + m)) damaged (from_tentative p cs (read_row read_waiting m bs)) Few (λ _. omega arith)
+    (λ off. rows (read_row read_waiting m bs) (row-few read_waiting m bs) (ltb-false MAX_LETTER_ENTRIES (n + m) off))
   where
-    rows : (row : Row PlainWaiting) → length (row_items row) ≤ m → n + m ≤ 1024 → Few (from_tentative p cs row)
+    rows : (row : Row PlainWaiting) → length (row_items row) ≤ m → n + m ≤ MAX_LETTER_ENTRIES → Few (from_tentative p cs row)
     rows (whole ws r) h le = cond_both (eqb (length r) 0) (heard p cs ws 0) damaged Few (λ _. omega (arith, length-items p cs ws 0)) (λ _. omega arith)
     rows (stopped ws k) h le = omega (arith, length-items p cs ws k)
     rows torn h le = omega arith
 
 committed-few : (n p : ℕ) (bs : List ℕ) → Few (read_committed n p bs)
 committed-few n p bs =
-    cond_both (ltb 1024 n) damaged (from_committed n p (read_row reads n bs)) Few (λ _. omega arith)
-    (λ off. rows (read_row reads n bs) (row-few reads n bs) (ltb-false 1024 n off))
+    cond_both (ltb MAX_LETTER_ENTRIES n) damaged (from_committed n p (read_row reads n bs)) Few (λ _. omega arith)
+    (λ off. rows (read_row reads n bs) (row-few reads n bs) (ltb-false MAX_LETTER_ENTRIES n off))
   where
-    rows : (row : Row PlainEntry) → length (row_items row) ≤ n → n ≤ 1024 → Few (from_committed n p row)
+    rows : (row : Row PlainEntry) → length (row_items row) ≤ n → n ≤ MAX_LETTER_ENTRIES → Few (from_committed n p row)
     rows (whole cs r) h le = number-few (read_two r) (read_tentative n p cs) (tentative-few n p cs h)
     rows (stopped cs k) h le = omega (arith, length-items p cs [] k)
     rows torn h le = omega arith
 
-pub heard-few : (bs : List ℕ) → length (items_of (read_letter bs)) ≤ 1024
+pub heard-few : (bs : List ℕ) → length (items_of (read_letter bs)) ≤ MAX_LETTER_ENTRIES
 heard-few bs =
-    cond_both (ltb (length bs) 41) damaged _ Few (λ _. omega arith)
+    cond_both (ltb (length bs) EMPTY_LETTER_BYTES) damaged _ Few (λ _. omega arith)
     (λ _. cond_both (eqb (get_or bs 0 0) 66) _ damaged Few
-    (λ _. cond_both (signed bs) (read_body (take (length bs - 33) (drop 1 bs))) damaged Few
-    (λ _. number-few (read_two (take (length bs - 33) (drop 1 bs))) read_placed (λ n r. number-few (read_four r) (read_committed n) (committed-few n)))
+    (λ _. cond_both (signed bs) (read_body (take (length bs - (1 + DIGEST_BYTES)) (drop 1 bs))) damaged Few
+    (λ _. number-few (read_two (take (length bs - (1 + DIGEST_BYTES)) (drop 1 bs))) read_placed (λ n r. number-few (read_four r) (read_committed n) (committed-few n)))
     (λ _. omega arith))
     (λ _. omega arith))

@@ -9,6 +9,7 @@ use Rattle.letters.specs.Buffers.{Room, Written}
 use Rattle.letters.specs.Format.{encode, two}
 use Rattle.letters.specs.Letters.{PlainLetter, encode_waiting, encode_body, encode_letter}
 use Rattle.letters.proofs.Puts.{written_then, written_as, room_then}
+use Rattle.letters.specs.declared.limits.TheConstants.{EMPTY_LETTER_BYTES}
 
 pub body_long :
     (l : PlainLetter) → length (encode_body l) ≡ 8 + length (flat_map encode l.committed) + length (flat_map encode_waiting l.tentative)
@@ -16,7 +17,7 @@ body_long l =
     omega (arith, length-append (flat_map encode l.committed) (two (length l.tentative) ++ flat_map encode_waiting l.tentative))
 
 pub letter_long :
-    (l : PlainLetter) → length (encode_letter l) ≡ 41 + length (flat_map encode l.committed) + length (flat_map encode_waiting l.tentative)
+    (l : PlainLetter) → length (encode_letter l) ≡ EMPTY_LETTER_BYTES + length (flat_map encode l.committed) + length (flat_map encode_waiting l.tentative)
 letter_long l =
     omega (arith, length-append (66 ∷ encode_body l) (digest_of (66 ∷ encode_body l)), digest_long_lem (66 ∷ encode_body l), body_long l)
 

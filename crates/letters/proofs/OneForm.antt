@@ -2,6 +2,7 @@
 use Rattle.std.proofs.Common.{◌≡◌, ℕ, ◌^◌, ◌<◌, ◌≤◌, ltb, List, [], ◌∷◌, ◌++◌, length, get_or, drop, sym, ap, ◌∙◌, subst, arith}
 use Rattle.std.specs.List.{flat_map}
 use Rattle.bookings.specs.Plain.{PlainMark, PlainChoice}
+use Rattle.bookings.specs.declared.limits.TheConstants.{MAX_CHOICES}
 use Rattle.letters.specs.Answers.{got, read_times}
 use Rattle.letters.specs.Format.{two, four, encode_mark, encode_choice, encode_choices, number_of_two, number_of_four, mark_at, choice_at, read_one, read_two, read_four, read_mark, read_choice, read_choices}
 use Rattle.letters.specs.Laws.{Bytes}
@@ -80,7 +81,7 @@ AnyChoices cs = Unit {0}
 pub exact_choices : Exact [] read_choices encode_choices AnyChoices
 exact_choices =
     exact_then [] read_one (λ n. n ∷ []) (λ n. n < 256) _ encode_choices AnyChoices exact_one
-    (λ n small. exact_unless (n ∷ []) (ltb 4 n) (read_times read_choice n) encode_choices AnyChoices (λ few. counted n))
+    (λ n small. exact_unless (n ∷ []) (ltb MAX_CHOICES n) (read_times read_choice n) encode_choices AnyChoices (λ few. counted n))
   where
     counted : (n : ℕ) → Exact (n ∷ []) (read_times read_choice n) encode_choices AnyChoices
     counted n bs cs r bytes h =

@@ -2,6 +2,7 @@
 use Rattle.std.proofs.Common.{Result, Ok, Err, MatchResult, IfOk, ◌≡◌, ℕ, zero, suc, ◌≤◌, Bool, true, false, cond, eqb, ltb, List, [], ◌∷◌, ◌++◌, length, get_or, take, drop, sym, refl, ap, ◌∙◌, append_assoc, arith, length-append, length-take-le, le-ltb, drop_at}
 use Rattle.std.proofs.lemmas.List.{take-append-drop}
 use Rattle.bookings.specs.Plain.{book, cancel, change, supply}
+use Rattle.bookings.specs.declared.limits.TheConstants.{HUTS, MAX_CHOICES}
 use Rattle.letters.specs.Answers.{Answer, got, out, after, read_times, OwnPart}
 use Rattle.letters.specs.Format.{having, mark_at, choice_at, number_of_four, read_one, read_four, read_mark, read_choice, read_choices, read_book, read_cancel, read_change, read_beds, read_kind, read_numbers, reads}
 use Rattle.letters.specs.Letters.{read_stamps, read_waiting}
@@ -100,7 +101,7 @@ own_choice = own_five choice_at (λ a b c d e bs more. refl)
 
 own_choices : ReadsOwnPart read_choices
 own_choices =
-    own_then read_one _ own_one (λ n. own_cond (ltb 4 n) (λ bs. out) (read_times read_choice n) own_out (own_times read_choice n own_choice))
+    own_then read_one _ own_one (λ n. own_cond (ltb MAX_CHOICES n) (λ bs. out) (read_times read_choice n) own_out (own_times read_choice n own_choice))
 
 own_book : ReadsOwnPart read_book
 own_book = own_then read_four _ own_four (λ guest. own_then read_choices _ own_choices (λ cs. own_got (book guest cs)))
@@ -130,7 +131,7 @@ own_entry =
 
 own_stamps : ReadsOwnPart read_stamps
 unfolding read_stamps
-own_stamps = own_times read_four 16 own_four
+own_stamps = own_times read_four HUTS own_four
 
 pub own_waiting : ReadsOwnPart read_waiting
 own_waiting = own_then reads _ own_entry (λ e. own_then read_stamps _ own_stamps (λ s. own_got (record { entry = e; stood = s })))

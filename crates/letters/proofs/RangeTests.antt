@@ -4,7 +4,8 @@ use Rattle.std.specs.Bool.{Decides}
 use Rattle.std.specs.List.{list_all}
 use Rattle.std.proofs.lemmas.Bool.{ltb-true, leb-true, lt-ltb, le-leb, and_parts, and_from}
 use Rattle.bookings.specs.Plain.{PlainMark, PlainStay, PlainChoice, PlainKind, book, cancel, change, supply, PlainEntry}
-use Rattle.bookings.specs.Ranges.{huts, nights_of_year, Each, MarkOk, StayOk, ChoiceOk, SupplyOk, ChoicesOk, KindOk, InRange}
+use Rattle.bookings.specs.Ranges.{Each, MarkOk, StayOk, ChoiceOk, SupplyOk, ChoicesOk, KindOk, InRange}
+use Rattle.bookings.specs.declared.limits.TheConstants.{HUTS, NIGHTS, MAX_STAY_NIGHTS, MAX_CHOICES, MAX_CHOICE_BEDS, MAX_HUT_BEDS}
 use Rattle.letters.specs.RangeTests.{mark_in_range, stay_in_range, choice_in_range, supply_in_range, choices_in_range, kind_in_range, in_range}
 
 both : (a b : Bool) (P Q : Type 0) → Decides a P → Decides b Q → Decides (a && b) (P × Q)
@@ -22,23 +23,23 @@ each test P one [] = (λ _. tt, λ _. refl)
 each test P one (x ∷ xs) = both (test x) (list_all test xs) (P x) (Each P xs) (one x) (each test P one xs)
 
 mark_decided : (m : PlainMark) → Decides (mark_in_range m) (MarkOk m)
-mark_decided m = both _ _ _ _ (at_most 1 m.stamp) (below m.hut huts)
+mark_decided m = both _ _ _ _ (at_most 1 m.stamp) (below m.hut HUTS)
 
 stay_decided : (s : PlainStay) → Decides (stay_in_range s) (StayOk s)
 stay_decided s =
-    let all = both _ _ _ _ (below s.hut huts) (both _ _ _ _ (at_most 1 s.nights) (both _ _ _ _ (at_most s.nights 14) (at_most (s.night + s.nights) nights_of_year))) in
+    let all = both _ _ _ _ (below s.hut HUTS) (both _ _ _ _ (at_most 1 s.nights) (both _ _ _ _ (at_most s.nights MAX_STAY_NIGHTS) (at_most (s.night + s.nights) NIGHTS))) in
     (λ e. let p = all.0 e in (p.0, p.1.0, p.1.1.0, p.1.1.1), λ p. all.1 (p.0, (p.1, (p.2, p.3))))
 
 choice_decided : (c : PlainChoice) → Decides (choice_in_range c) (ChoiceOk c)
 choice_decided c =
-    let all = both _ _ _ _ (stay_decided c.stay) (both _ _ _ _ (at_most 1 c.beds) (at_most c.beds 20)) in
+    let all = both _ _ _ _ (stay_decided c.stay) (both _ _ _ _ (at_most 1 c.beds) (at_most c.beds MAX_CHOICE_BEDS)) in
     (λ e. let p = all.0 e in (p.0, p.1.0, p.1.1), λ p. all.1 (p.0, (p.1, p.2)))
 
 supply_decided : (c : PlainChoice) → Decides (supply_in_range c) (SupplyOk c)
-supply_decided c = both _ _ _ _ (stay_decided c.stay) (at_most c.beds 255)
+supply_decided c = both _ _ _ _ (stay_decided c.stay) (at_most c.beds MAX_HUT_BEDS)
 
 choices_decided : (cs : List PlainChoice) → Decides (choices_in_range cs) (ChoicesOk cs)
-choices_decided cs = both _ _ _ _ (at_most (length cs) 4) (each choice_in_range ChoiceOk choice_decided cs)
+choices_decided cs = both _ _ _ _ (at_most (length cs) MAX_CHOICES) (each choice_in_range ChoiceOk choice_decided cs)
 
 kind_decided : (k : PlainKind) → Decides (kind_in_range k) (KindOk k)
 kind_decided (book guest cs) = choices_decided cs

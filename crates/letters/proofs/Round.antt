@@ -5,6 +5,7 @@ use Rattle.std.proofs.lemmas.Bool.{false_from_ne_true}
 use Rattle.letters.specs.Answers.{got, read_times}
 use Rattle.bookings.specs.Plain.{PlainMark, PlainStay, PlainChoice, PlainKind, book, cancel, change, supply, PlainEntry}
 use Rattle.bookings.specs.Ranges.{Each, StayOk, ChoiceOk, KindOk}
+use Rattle.bookings.specs.declared.limits.TheConstants.{MAX_CHOICES}
 use Rattle.letters.specs.Format.{four, two, encode_mark, encode_choice, encode_choices, encode_kind, encode, read_one, read_two, read_four, read_mark, read_choice, read_choices, read_kind, read_numbers, reads, unless}
 use Rattle.letters.specs.RangeTests.{in_range}
 use Rattle.letters.specs.Laws.{KindFits, NightFits, NightsFit, Encodable, EntryOk, EntryRoundTrip, EntryPrefixFree, EntryCutShort, EntryOutOfRange}
@@ -36,10 +37,10 @@ codes_mark m fits = codes_block 5 _ (encode_mark m) m refl (λ rest. rw (four_is
 codes_choice : (c : PlainChoice) → NightFits c → Codes read_choice (encode_choice c) c
 codes_choice c fits = codes_block 5 _ (encode_choice c) c refl (λ rest. rw (two_is c.stay.night fits) refl)
 
-codes_choices : (cs : List PlainChoice) → length cs ≤ 4 → Each NightFits cs → Codes read_choices (encode_choices cs) cs
+codes_choices : (cs : List PlainChoice) → length cs ≤ MAX_CHOICES → Each NightFits cs → Codes read_choices (encode_choices cs) cs
 codes_choices cs few fit =
-    codes_then read_one (λ n r. unless (ltb 4 n) (read_times read_choice n r)) (length cs ∷ []) (flat_map encode_choice cs) (length cs) cs (codes_one (length cs))
-    (rw (le-ltb 4 (length cs) few) (codes_times read_choice encode_choice NightFits codes_choice cs fit))
+    codes_then read_one (λ n r. unless (ltb MAX_CHOICES n) (read_times read_choice n r)) (length cs ∷ []) (flat_map encode_choice cs) (length cs) cs (codes_one (length cs))
+    (rw (le-ltb MAX_CHOICES (length cs) few) (codes_times read_choice encode_choice NightFits codes_choice cs fit))
 
 codes_kind : (k : PlainKind) → KindFits k → NightsFit k → Codes read_kind (encode_kind k) k
 codes_kind (book guest cs) fits nights =

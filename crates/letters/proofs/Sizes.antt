@@ -6,6 +6,7 @@ use Rattle.bookings.specs.Plain.{PlainChoice, PlainKind, book, cancel, change, s
 use Rattle.bookings.specs.Ranges.{KindOk}
 use Rattle.letters.specs.Format.{encode_choice, encode_kind, four}
 use Rattle.letters.specs.Laws.{EntrySmall}
+use Rattle.letters.specs.declared.limits.TheConstants.{WAITING_ROOM}
 
 pub length_choices : (cs : List PlainChoice) → length (flat_map encode_choice cs) ≡ 5 * length cs
 length_choices [] = refl
@@ -24,13 +25,13 @@ pub length_stamps : (xs : List ℕ) → length (flat_map four xs) ≡ 4 * length
 length_stamps [] = refl
 length_stamps (x ∷ xs) = let rest = length_stamps xs in omega (arith, rest)
 
--- a loop that adds up the lengths of what a list holds, each of 96 bytes at most
+-- a loop that adds up the lengths of what a list holds, each of `WAITING_ROOM` bytes at most
 module _ {A X : Type 0} (enc : A → List ℕ) (f : X → A) (all : List X) where
   pub record Sums (sum i : ℕ) : Type 0 where
     pub value : sum ≡ length (flat_map enc (map f (take i all)))
-    pub small : sum ≤ 96 * i
+    pub small : sum ≤ WAITING_ROOM * i
 
-  pub sums_more : (sum i k : ℕ) (x : X) → i < length all → x ≡ get_or all i x → Sums sum i → k ≡ length (enc (f x)) → k ≤ 96 → Sums (sum + k) (i + 1)
+  pub sums_more : (sum i k : ℕ) (x : X) → i < length all → x ≡ get_or all i x → Sums sum i → k ≡ length (enc (f x)) → k ≤ WAITING_ROOM → Sums (sum + k) (i + 1)
   sums_more sum i k x h x-is so k-is few =
       let grown : length (flat_map enc (map f (take (i + 1) all))) ≡ length (flat_map enc (map f (take i all)) ++ enc (f x)) =
       ap (λ xs. length (flat_map enc xs)) (map_more f all i x h)

@@ -4,8 +4,10 @@ use Rattle.std.specs.List.{flat_map}
 use Rattle.std.proofs.lemmas.Bool.{le-ltb}
 use Rattle.bookings.specs.Plain.{PlainEntry}
 use Rattle.bookings.specs.Ranges.{Each}
+use Rattle.entry_log.specs.declared.waiting.TheConstants.{MAX_LETTER_ENTRIES}
 use Rattle.digest.specs.Sha256.{digest_of}
 use Rattle.digest.proofs.Lengths.{digest_long_lem}
+use Rattle.digest.specs.declared.TheConstants.{DIGEST_BYTES}
 use Rattle.letters.specs.Answers.{Answer, short}
 use Rattle.letters.specs.Format.{encode, two, four, reads}
 use Rattle.letters.specs.Laws.{EntryOk, WaitingOk, Encodable, with_digest, body_up_to, CommittedCutDamaged, TentativeCutDamaged}
@@ -31,7 +33,7 @@ row_torn read enc P one (suc n) (x ∷ xs) part ok few ends =
 digest_damaged : (body : List ℕ) → read_body body ≡ damaged → read_letter (with_digest body) ≡ damaged
 digest_damaged body is =
     let d = digest_of (66 ∷ body) in
-    let n-is : length (with_digest body) - 33 ≡ length body = omega (arith, length-append (66 ∷ body) d, digest_long_lem (66 ∷ body)) in
+    let n-is : length (with_digest body) - (1 + DIGEST_BYTES) ≡ length body = omega (arith, length-append (66 ∷ body) d, digest_long_lem (66 ∷ body)) in
     body_damaged (with_digest body) (λ _. ap read_body (ap (λ n. take n (body ++ d)) n-is ∙ take_at body d (length body) refl) ∙ is)
 
 pub committed_cut_damaged_lem : CommittedCutDamaged
@@ -40,7 +42,7 @@ committed_cut_damaged_lem place n k cs e fits most few ok e-fits cut =
     digest_damaged (two n ++ (four place ++ second))
     (ap (λ a. number a read_placed) ((codes_two n (omega (arith, most))).round (four place ++ second))
     ∙ ap (λ a. number a (read_committed n)) ((codes_four place fits).round second)
-    ∙ ap (λ b. cond b damaged (from_committed n place (read_row reads n second))) (le-ltb 1024 n most)
+    ∙ ap (λ b. cond b damaged (from_committed n place (read_row reads n second))) (le-ltb MAX_LETTER_ENTRIES n most)
     ∙ ap (from_committed n place) (row_torn reads encode EntryOk codes_entry n cs (take k (encode e)) ok few (entry-cut-short e k e-fits cut)))
 
 -- the bytes of the entry end before its stamps
@@ -56,8 +58,8 @@ tentative_cut_damaged_lem l m k e ok most few e-fits cut =
     digest_damaged (body_up_to l m (take k (encode e)))
     (ap (λ a. number a read_placed) ((codes_two n (omega (arith, most))).round (four l.place ++ second))
     ∙ ap (λ a. number a (read_committed n)) ((codes_four l.place ok.place_ok).round second)
-    ∙ ap (λ b. cond b damaged (from_committed n l.place (read_row reads n second))) (le-ltb 1024 n (omega (arith, most)))
+    ∙ ap (λ b. cond b damaged (from_committed n l.place (read_row reads n second))) (le-ltb MAX_LETTER_ENTRIES n (omega (arith, most)))
     ∙ ap (from_committed n l.place) (row_round reads encode EntryOk codes_entry l.committed third ok.committed_ok)
     ∙ ap (λ a. number a (read_tentative n l.place l.committed)) ((codes_two m (omega (arith, most))).round last)
-    ∙ ap (λ b. cond b damaged (from_tentative l.place l.committed (read_row read_waiting m last))) (le-ltb 1024 (n + m) most)
+    ∙ ap (λ b. cond b damaged (from_tentative l.place l.committed (read_row read_waiting m last))) (le-ltb MAX_LETTER_ENTRIES (n + m) most)
     ∙ ap (from_tentative l.place l.committed) (row_torn read_waiting encode_waiting WaitingOk codes_waiting m l.tentative (take k (encode e)) ok.tentative_ok few (waiting_short e k e-fits cut)))

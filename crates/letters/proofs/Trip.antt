@@ -1,5 +1,7 @@
 -- A letter that was written is read back; cut short, or with anything behind it, it is damaged.
 use Rattle.std.proofs.Common.{◌≡◌, ℕ, ◌+◌, ◌-◌, ◌^◌, ◌<◌, ◌≤◌, cond, eqb, List, ◌++◌, length, take, refl, ap, ◌∙◌, subst, ⊎_elim, append_assoc, arith, length-append}
+use Rattle.bookings.specs.declared.limits.TheConstants.{HUTS}
+use Rattle.entry_log.specs.declared.waiting.TheConstants.{MAX_LETTER_ENTRIES}
 use lib.Seq.{take-append-le}
 use Rattle.std.specs.List.{flat_map}
 use Rattle.std.proofs.lemmas.Bool.{cases_lt, le-ltb}
@@ -14,7 +16,7 @@ use Rattle.letters.proofs.Codes.{Codes, codes_then, codes_map, codes_times, take
 use Rattle.letters.proofs.Round.{codes_two, codes_four, codes_entry}
 use Rattle.letters.proofs.RowCodes.{row_round, row_cut}
 
-codes_stamps : (xs : List ℕ) → length xs ≡ 16 → Each (λ n. n < 2 ^ 32) xs → Codes read_stamps (flat_map four xs) xs
+codes_stamps : (xs : List ℕ) → length xs ≡ HUTS → Each (λ n. n < 2 ^ 32) xs → Codes read_stamps (flat_map four xs) xs
 unfolding read_stamps
 codes_stamps xs long fit =
     let all = codes_times read_four four (λ n. n < 2 ^ 32) codes_four xs fit in subst (λ n. Codes (read_times read_four n) (flat_map four xs) xs) long all
@@ -40,10 +42,10 @@ body_trip l r ok =
     ap read_body parts
     ∙ ap (λ a. number a read_placed) ((codes_two n (omega (arith, ok.few))).round first)
     ∙ ap (λ a. number a (read_committed n)) ((codes_four l.place ok.place_ok).round second)
-    ∙ ap (λ b. cond b damaged (from_committed n l.place (read_row reads n second))) (le-ltb 1024 n (omega (arith, ok.few)))
+    ∙ ap (λ b. cond b damaged (from_committed n l.place (read_row reads n second))) (le-ltb MAX_LETTER_ENTRIES n (omega (arith, ok.few)))
     ∙ ap (from_committed n l.place) (row_round reads encode EntryOk codes_entry l.committed third ok.committed_ok)
     ∙ ap (λ a. number a (read_tentative n l.place l.committed)) ((codes_two m (omega (arith, ok.few))).round last)
-    ∙ ap (λ b. cond b damaged (from_tentative l.place l.committed (read_row read_waiting m last))) (le-ltb 1024 (n + m) ok.few)
+    ∙ ap (λ b. cond b damaged (from_tentative l.place l.committed (read_row read_waiting m last))) (le-ltb MAX_LETTER_ENTRIES (n + m) ok.few)
     ∙ ap (from_tentative l.place l.committed) (row_round read_waiting encode_waiting WaitingOk codes_waiting l.tentative r ok.tentative_ok)
 
 -- CUT SHORT
@@ -65,7 +67,7 @@ cuts_number first next ps bs n one more k h = ⊎_elim early late (cases_lt k (l
 
 cuts_tentative : (l : PlainLetter) → LetterOk l → Cuts (read_tentative (length l.committed) l.place l.committed (length l.tentative)) (flat_map encode_waiting l.tentative)
 cuts_tentative l ok k h =
-    rw (le-ltb 1024 (length l.committed + length l.tentative) ok.few)
+    rw (le-ltb MAX_LETTER_ENTRIES (length l.committed + length l.tentative) ok.few)
     (ap (from_tentative l.place l.committed) (row_cut read_waiting encode_waiting WaitingOk codes_waiting l.tentative k ok.tentative_ok h))
 
 cuts_committed :
@@ -73,7 +75,7 @@ cuts_committed :
     → Cuts (λ r. number (read_two r) (read_tentative (length l.committed) l.place l.committed)) more
     → Cuts (read_committed (length l.committed) l.place) (flat_map encode l.committed ++ more)
 cuts_committed l more ok rest k h =
-    rw (le-ltb 1024 (length l.committed) (omega (arith, ok.few))) (⊎_elim early late (cases_lt k (length (flat_map encode l.committed))))
+    rw (le-ltb MAX_LETTER_ENTRIES (length l.committed) (omega (arith, ok.few))) (⊎_elim early late (cases_lt k (length (flat_map encode l.committed))))
   where
     early : k < length (flat_map encode l.committed) → from_committed (length l.committed) l.place (read_row reads (length l.committed) (take k (flat_map encode l.committed ++ more))) ≡ damaged
     early lt =

@@ -3,6 +3,7 @@ use Rattle.std.specs.Prelude.{◌≡◌, ℕ, ◌+◌, ◌<◌, ◌≤◌, ◌�
 use Rattle.std.specs.List.{flat_map}
 use Rattle.bookings.specs.Plain.{PlainEntry}
 use Rattle.entry_log.specs.Waits.{PlainWaiting}
+use Rattle.entry_log.specs.declared.waiting.TheConstants.{MAX_LETTER_ENTRIES}
 use Rattle.letters.specs.Format.{encode, two, four}
 use Rattle.letters.specs.Laws.{Bytes, LetterOk}
 use Rattle.letters.specs.Letters.{PlainLetter, heard, read_letter}
@@ -20,7 +21,7 @@ heard_letter place cs ws = record { place = place; committed = cs; tentative = w
 -- committed entries as are heard, the one that stands behind these
 abbrev pub Says : List ℕ → ℕ → List PlainEntry → List PlainWaiting → ℕ → Type 0
 Says bs place cs ws said =
-    (n : ℕ) × (rest : List ℕ) × Begins bs n place cs rest × (said ≤ 1024)
+    (n : ℕ) × (rest : List ℕ) × Begins bs n place cs rest × (said ≤ MAX_LETTER_ENTRIES)
     × (((length cs < n) × (ws ≡ []) × (said ≡ n))
     ⊎ ((m : ℕ) × (more : List ℕ) × (rest ≡ two m ++ more) × (length cs ≡ n) × (said ≡ n + m)))
 

@@ -2,6 +2,7 @@
 use Rattle.std.specs.Prelude.{ℕ, ◌+◌, ◌*◌, ◌/◌, ◌%◌, Bool, cond, if◌then◌else◌, List, [], ◌∷◌, ◌++◌, length, drop, ◌==◌, nat_lt, slice_index}
 use Rattle.std.specs.List.{flat_map}
 use Rattle.bookings.specs.Plain.{PlainMark, PlainChoice, PlainKind, book, cancel, change, supply, PlainEntry}
+use Rattle.bookings.specs.declared.limits.TheConstants.{MAX_CHOICES}
 use Rattle.letters.specs.Answers.{Answer, got, short, out, after, read_times}
 use Rattle.letters.specs.RangeTests.{in_range}
 
@@ -73,7 +74,7 @@ read_choice bs = having 5 bs (got (choice_at bs) (drop 5 bs))
 
 -- how many, and these; more than four are out of range as soon as the count is read
 abbrev pub read_choices : List ℕ → Answer (List PlainChoice)
-read_choices bs = after (read_one bs) (λ n r. unless (nat_lt 4 n) (read_times read_choice n r))
+read_choices bs = after (read_one bs) (λ n r. unless (nat_lt MAX_CHOICES n) (read_times read_choice n r))
 
 abbrev pub read_book : List ℕ → Answer PlainKind
 read_book bs = after (read_four bs) (λ guest r. after (read_choices r) (λ cs s. got (book guest cs) s))

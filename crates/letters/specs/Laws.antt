@@ -3,11 +3,15 @@ use Rattle.std.specs.Prelude.{◌≡◌, ℕ, ◌+◌, ◌-◌, ◌^◌, ◌<◌
 use Rattle.std.specs.List.{flat_map}
 use Rattle.bookings.specs.Plain.{PlainChoice, PlainKind, book, cancel, change, supply, PlainEntry}
 use Rattle.bookings.specs.Ranges.{Each, InRange}
+use Rattle.bookings.specs.declared.limits.TheConstants.{HUTS, MAX_CHOICES}
+use Rattle.digest.specs.declared.TheConstants.{DIGEST_BYTES}
 use Rattle.entry_log.specs.Waits.{PlainWaiting}
+use Rattle.entry_log.specs.declared.waiting.TheConstants.{MAX_LETTER_ENTRIES}
 use Rattle.digest.specs.Sha256.{digest_of}
 use Rattle.letters.specs.Answers.{got, short, out}
 use Rattle.letters.specs.Format.{encode, two, four, reads}
 use Rattle.letters.specs.Letters.{PlainLetter, encode_waiting, encode_letter, heard, damaged, read_letter}
+use Rattle.letters.specs.declared.limits.TheConstants.{ENTRY_ROOM}
 
 -- stamps and guests are numbers of four bytes
 abbrev pub KindFits : PlainKind → Type 0
@@ -27,9 +31,9 @@ abbrev pub NightFits : PlainChoice → Type 0
 NightFits c = c.stay.night < 65536
 
 abbrev pub NightsFit : PlainKind → Type 0
-NightsFit (book guest cs) = (length cs ≤ 4) × Each NightFits cs
+NightsFit (book guest cs) = (length cs ≤ MAX_CHOICES) × Each NightFits cs
 NightsFit (cancel m) = Unit {0}
-NightsFit (change m cs) = (length cs ≤ 4) × Each NightFits cs
+NightsFit (change m cs) = (length cs ≤ MAX_CHOICES) × Each NightFits cs
 NightsFit (supply c) = NightFits c
 
 -- an entry that can be written as bytes, in range or not
@@ -63,13 +67,13 @@ abbrev pub EntryOneForm : Type 0
 EntryOneForm =
     (bs : List ℕ) (e : PlainEntry) (rest : List ℕ) → Bytes bs → reads bs ≡ got e rest → EntryOk e × (bs ≡ encode e ++ rest)
 
--- no entry takes more than 32 bytes
+-- how many bytes an entry takes at most
 abbrev pub EntrySmall : Type 0
-EntrySmall = (e : PlainEntry) → InRange e → length (encode e) ≤ 32
+EntrySmall = (e : PlainEntry) → InRange e → length (encode e) ≤ ENTRY_ROOM
 
 pub record WaitingOk (w : PlainWaiting) : Type 0 where
   pub entry_ok : EntryOk w.entry
-  pub sixteen : length w.stood ≡ 16
+  pub sixteen : length w.stood ≡ HUTS
   pub fit : Each (λ n. n < 2 ^ 32) w.stood
 
 -- a letter that the format can hold
@@ -77,7 +81,7 @@ pub record LetterOk (l : PlainLetter) : Type 0 where
   pub place_ok : l.place < 2 ^ 32
   pub committed_ok : Each EntryOk l.committed
   pub tentative_ok : Each WaitingOk l.tentative
-  pub few : length l.committed + length l.tentative ≤ 1024
+  pub few : length l.committed + length l.tentative ≤ MAX_LETTER_ENTRIES
 
 -- reading a letter that was written gives it back, whole
 abbrev pub LetterRoundTrip : Type 0
@@ -92,9 +96,9 @@ abbrev pub LetterOneForm : Type 0
 LetterOneForm =
     (bs : List ℕ) (l : PlainLetter) → Bytes bs → read_letter bs ≡ heard l.place l.committed l.tentative 0 → LetterOk l × (bs ≡ encode_letter l)
 
--- nothing is heard where the last 32 bytes are not the digest of those before them
+-- nothing is heard where the last bytes are not the digest of those before them
 abbrev pub UnsignedDamaged : Type 0
-UnsignedDamaged = (bs : List ℕ) → (digest_of (take (length bs - 32) bs) ≢ drop (length bs - 32) bs) → read_letter bs ≡ damaged
+UnsignedDamaged = (bs : List ℕ) → (digest_of (take (length bs - DIGEST_BYTES) bs) ≢ drop (length bs - DIGEST_BYTES) bs) → read_letter bs ≡ damaged
 
 -- a letter that was written and is cut short anywhere is damaged, whatever the digests are
 abbrev pub CutDamaged : Type 0
@@ -111,7 +115,7 @@ with_digest body = (66 ∷ body) ++ digest_of (66 ∷ body)
 -- LAW: a letter whose bytes end within a committed entry is damaged, whatever the numbers of that entry and the digest
 abbrev pub CommittedCutDamaged : Type 0
 CommittedCutDamaged =
-    (place n k : ℕ) (cs : List PlainEntry) (e : PlainEntry) → place < 2 ^ 32 → n ≤ 1024 → length cs < n → Each EntryOk cs → Encodable e
+    (place n k : ℕ) (cs : List PlainEntry) (e : PlainEntry) → place < 2 ^ 32 → n ≤ MAX_LETTER_ENTRIES → length cs < n → Each EntryOk cs → Encodable e
     → k < length (encode e) → read_letter (with_digest (two n ++ (four place ++ (flat_map encode cs ++ take k (encode e))))) ≡ damaged
 
 -- the bytes of a letter that has m tentative entries by its count
@@ -122,5 +126,5 @@ body_up_to l m part =
 -- LAW: and so is a letter whose bytes end within a tentative entry
 abbrev pub TentativeCutDamaged : Type 0
 TentativeCutDamaged =
-    (l : PlainLetter) (m k : ℕ) (e : PlainEntry) → LetterOk l → length l.committed + m ≤ 1024 → length l.tentative < m → Encodable e
+    (l : PlainLetter) (m k : ℕ) (e : PlainEntry) → LetterOk l → length l.committed + m ≤ MAX_LETTER_ENTRIES → length l.tentative < m → Encodable e
     → k < length (encode e) → read_letter (with_digest (body_up_to l m (take k (encode e)))) ≡ damaged

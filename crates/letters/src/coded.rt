@@ -2,6 +2,7 @@
 ghost use Rattle.std.specs.Prelude.{◌≡◌, ℕ, ◌≤◌, List, length, MatchResult, IfOk};
 ghost use Rattle.letters.specs.Answers.{Answer, got, wrong, OwnPart};
 ghost use Rattle.letters.specs.Buffers.{Room, Written};
+ghost use Rattle.letters.specs.declared.limits.TheConstants.{WAITING_ROOM};
 
 use crate::reader::Reader;
 use crate::wrong::Wrong;
@@ -27,7 +28,7 @@ pub(crate) trait Coded: Copy {
     // How many bytes it takes.
     fn size(&self) -> usize
         ensures value { result ≡ length (encoding (plain self.now)) }
-        ensures small { result ≤ 96 };
+        ensures small { result ≤ WAITING_ROOM };
 }
 
 // Values that are read one behind the other: what a value means, and what bytes are read as.

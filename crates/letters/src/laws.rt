@@ -22,7 +22,7 @@ pub fn entry_one_form()
     ensures { EntryOneForm }
 {}
 
-// An entry takes 32 bytes at most.
+// An entry takes `ENTRY_ROOM` bytes at most.
 pub fn entry_small()
     ensures { EntrySmall }
 {}
@@ -42,7 +42,7 @@ pub fn letter_one_form()
     ensures { LetterOneForm }
 {}
 
-// Nothing is heard where the last 32 bytes are not the digest of those before them.
+// Nothing is heard where the last bytes are not the digest of those before them.
 pub fn unsigned_damaged()
     ensures { UnsignedDamaged }
 {}

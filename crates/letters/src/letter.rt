@@ -8,9 +8,6 @@ use entry_log::waiting::Waiting;
 mod goes;
 mod opens;
 
-// No letter has more entries than this.
-pub const LETTER: u16 = 1024;
-
 // Values that are not given out yet: how many, from where the reader stands.
 #[derive(Drop)]
 struct Unread<'a> {

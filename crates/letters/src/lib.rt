@@ -4,6 +4,7 @@
 mod coded;
 pub mod laws;
 pub mod letter;
+pub mod limits;
 pub mod reader;
 pub mod unwritten;
 pub mod writer;

@@ -13,11 +13,9 @@ use bookings::entry::{Choices, Entry, Kind, Mark, Stay};
 mod lengths;
 mod letters;
 
+pub use crate::limits::LETTER_ROOM;
 pub(crate) use lengths::entry_size;
-pub use letters::{LETTER_ROOM, write_letter};
-
-// No entry takes more bytes than this.
-pub const ENTRY_ROOM: usize = 32;
+pub use letters::write_letter;
 
 // Puts bytes behind those of the buffer.
 pub fn put(out: &mut Vec<u8>, part: &[u8])

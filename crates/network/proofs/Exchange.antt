@@ -1,7 +1,8 @@
--- Letters one after another: each brings the next 1,024 items of all that is lacking.
+-- Letters one after another: each brings the next items of all that is lacking.
 use Rattle.std.proofs.Common.{◌≡◌, ℕ, zero, suc, ◌+◌, ◌*◌, ◌<◌, eqb, ltb, List, [], ◌∷◌, ◌++◌, length, drop, sym, refl, ap, ◌∙◌, subst, inl, inr, arith, eqb→eq, lt→ltb}
 use Rattle.std.proofs.lemmas.List.{drop_all, drop-drop}
 use Rattle.bookings.specs.Plain.{PlainEntry}
+use Rattle.entry_log.specs.declared.waiting.TheConstants.{MAX_LETTER_ENTRIES}
 use Rattle.journal.specs.History.{Kept, history_of, synced}
 use Rattle.replica.specs.Model.{capacity}
 use Rattle.network.specs.Items.{Letter, items_taken}
@@ -56,7 +57,7 @@ exchange_becomes n I i j =
 module _ (i j : ℕ) (low : i < huts) (lt : j < huts) where
   -- one letter
   pub exchange-left :
-      {every : List PlainEntry} (n : Net) → Holds every n → length every < capacity → Apart i j → lacking (exchange n i j) i j ≡ drop 1024 (lacking n i j)
+      {every : List PlainEntry} (n : Net) → Holds every n → length every < capacity → Apart i j → lacking (exchange n i j) i j ≡ drop MAX_LETTER_ENTRIES (lacking n i j)
   exchange-left n I few apart =
       lacking_by ((exchange n i j).hut i) (n.hut i) ((exchange n i j).hut j) (items_taken (letter_to n i j) (n.hut j)) (exchange_others n i j low lt i apart)
       (ap history_of (exchange_reader n i j low lt (apart_turned i j apart)))
@@ -69,19 +70,19 @@ module _ (i j : ℕ) (low : i < huts) (lt : j < huts) where
 
   exchanges-left :
       {every : List PlainEntry} (count : ℕ) (n : Net) → Holds every n → length every < capacity → Apart i j
-      → lacking (exchanges count n i j) i j ≡ drop (count * 1024) (lacking n i j)
+      → lacking (exchanges count n i j) i j ≡ drop (count * MAX_LETTER_ENTRIES) (lacking n i j)
   exchanges-left zero n I few apart = refl
   exchanges-left (suc count) n I few apart =
-      let sum : 1024 + count * 1024 ≡ suc count * 1024 = omega arith in
-      exchanges-left count (exchange n i j) (exchange_becomes n I i j).holds few apart ∙ ap (drop (count * 1024)) (exchange-left n I few apart)
-      ∙ drop-drop (count * 1024) 1024 (lacking n i j) ∙ ap (λ (m : ℕ). drop m (lacking n i j)) sum
+      let sum : MAX_LETTER_ENTRIES + count * MAX_LETTER_ENTRIES ≡ suc count * MAX_LETTER_ENTRIES = omega arith in
+      exchanges-left count (exchange n i j) (exchange_becomes n I i j).holds few apart ∙ ap (drop (count * MAX_LETTER_ENTRIES)) (exchange-left n I few apart)
+      ∙ drop-drop (count * MAX_LETTER_ENTRIES) MAX_LETTER_ENTRIES (lacking n i j) ∙ ap (λ (m : ℕ). drop m (lacking n i j)) sum
 
 drop_none : {A : Type 0} (n : ℕ) → drop {A = A} n [] ≡ []
 drop_none zero = refl
 drop_none (suc n) = refl
 
 pub letters_needed : Always LettersNeeded
-letters_needed es few i j low lt count = (left, λ enough. caught (left ∙ drop_all (count * 1024) (lacking (after es) i j) enough))
+letters_needed es few i j low lt count = (left, λ enough. caught (left ∙ drop_all (count * MAX_LETTER_ENTRIES) (lacking (after es) i j) enough))
   where
     rest : Net
     rest = exchanges count (after es) i j
@@ -89,15 +90,15 @@ letters_needed es few i j low lt count = (left, λ enough. caught (left ∙ drop
     holds : Holds (entries_made es) (exchanges count (after es) i j)
     holds = exchanges_hold i j low lt count (after es) (after_holds es)
 
-    self : lacking (exchanges count (after es) j j) j j ≡ drop (count * 1024) (lacking (after es) j j)
+    self : lacking (exchanges count (after es) j j) j j ≡ drop (count * MAX_LETTER_ENTRIES) (lacking (after es) j j)
     self =
-        lacks_none (exchanges count (after es) j j) (exchanges_hold j j lt lt count (after es) (after_holds es)) (made_fewer es few) j ∙ sym (drop_none (count * 1024))
-        ∙ ap (drop (count * 1024)) (sym (lacks_none (after es) (after_holds es) (made_fewer es few) j))
+        lacks_none (exchanges count (after es) j j) (exchanges_hold j j lt lt count (after es) (after_holds es)) (made_fewer es few) j ∙ sym (drop_none (count * MAX_LETTER_ENTRIES))
+        ∙ ap (drop (count * MAX_LETTER_ENTRIES)) (sym (lacks_none (after es) (after_holds es) (made_fewer es few) j))
 
-    left : lacking (exchanges count (after es) i j) i j ≡ drop (count * 1024) (lacking (after es) i j)
+    left : lacking (exchanges count (after es) i j) i j ≡ drop (count * MAX_LETTER_ENTRIES) (lacking (after es) i j)
     left =
         by_same i j
-        (λ p. subst (λ (h : ℕ). lacking (exchanges count (after es) h j) h j ≡ drop (count * 1024) (lacking (after es) h j)) (sym p) self)
+        (λ p. subst (λ (h : ℕ). lacking (exchanges count (after es) h j) h j ≡ drop (count * MAX_LETTER_ENTRIES) (lacking (after es) h j)) (sym p) self)
         (λ apart. exchanges-left i j low lt count (after es) (after_holds es) (made_fewer es few) apart)
 
     caught : lacking (exchanges count (after es) i j) i j ≡ [] → Caught (exchanges count (after es) i j) i j

@@ -2,6 +2,8 @@
 use Rattle.std.proofs.Common.{◌≡◌, ◌≢◌, ℕ, zero, suc, ◌+◌, ◌*◌, ◌<◌, ◌≤◌, List, [], ◌++◌, sym, ap, ◌∙◌, subst, arith}
 use mathlib.Core.List.{Memᴰ}
 use Rattle.bookings.specs.Plain.{PlainEntry}
+use Rattle.bookings.specs.declared.book.TheConstants.{CAPACITY}
+use Rattle.entry_log.specs.declared.waiting.TheConstants.{MAX_LETTER_ENTRIES}
 use Rattle.replica.specs.Model.{capacity}
 use Rattle.network.specs.Fairness.{CommitsAgain, FairRunSettles, RoundsAgain, segment}
 use Rattle.network.specs.Net.{Event, Net, after, huts, run}
@@ -44,7 +46,7 @@ module _ (s : ℕ → Event) (n : Net) where
 -- three phases of such a run
 module _
     (es : List Event) (enough commits : ℕ)
-    (bound : (m : ℕ) → m < capacity → (2 * m < enough * 1024) × (m ≤ commits)) (s : ℕ → Event)
+    (bound : (m : ℕ) → m < capacity → (2 * m < enough * MAX_LETTER_ENTRIES) × (m ≤ commits)) (s : ℕ → Event)
     (few : (t : ℕ) → makings (es ++ segment s 0 t) < capacity) where
   module _
       (i c j : ℕ) (low : i < huts) (mid : c < huts) (lt : j < huts)
@@ -154,7 +156,7 @@ fair_run_settles es s few c mid tries rounds =
         (k : PlainEntry) → Memᴰ k (entries_of ((after es).hut i).durable)
         → Memᴰ k (committed_of ((run (segment s 0 t) (after es)).hut j).durable)
 
-    bound : (m : ℕ) → m < capacity → (2 * m < 128 * 1024) × (m ≤ 65536)
+    bound : (m : ℕ) → m < capacity → (2 * m < 128 * MAX_LETTER_ENTRIES) × (m ≤ CAPACITY)
     bound m lt = (omega arith, omega arith)
 
     pair : (i : ℕ) → i < huts → (j : ℕ) → j < huts → (time : ℕ)
@@ -162,8 +164,8 @@ fair_run_settles es s few c mid tries rounds =
     pair i low j lt =
         let to : i ≢ c → RoundsAgain i c (after es) s = λ ne. (rounds i low ne).0 in
         let back : c ≢ j → RoundsAgain c j (after es) s = λ ne. (rounds j lt (λ p. ne (sym p))).1 in (
-          settled_at es 128 65536 bound s few i c j low mid lt to tries back,
-          settles-by es 128 65536 bound s few i c j low mid lt to tries back,
+          settled_at es 128 CAPACITY bound s few i c j low mid lt to tries back,
+          settles-by es 128 CAPACITY bound s few i c j low mid lt to tries back,
         )
 
     from : (i : ℕ) → i < huts → (time : ℕ) × ((later j : ℕ) → j < huts → Settles i j (time + later))

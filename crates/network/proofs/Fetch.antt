@@ -1,5 +1,6 @@
 -- Letter after letter a replica comes to know all that another knows, and to have as many committed.
 use Rattle.std.proofs.Common.{◌≡◌, ℕ, zero, suc, ◌<◌, ◌≤◌, ◌⊎◌, List, [], ◌∷◌, ◌++◌, length, drop, sym, refl, ap, ◌∙◌, subst, inl, inr, arith, length-append, length-drop}
+use Rattle.entry_log.specs.declared.waiting.TheConstants.{MAX_LETTER_ENTRIES}
 use mathlib.Core.List.{Memᴰ}
 use Rattle.bookings.specs.Plain.{PlainEntry}
 use Rattle.journal.specs.History.{PlainRecord, history_of}
@@ -65,7 +66,7 @@ fetched_one es on i j q only =
 
 module _ (i j : ℕ) (low : i < huts) (lt : j < huts) (apart : Apart i j) where
   -- one letter
-  bring : (es : List Event) → Roomy es → WalkTo es (λ on. Fetched es on i j × (lacking (after on) i j ≡ drop 1024 (lacking (after es) i j)))
+  bring : (es : List Event) → Roomy es → WalkTo es (λ on. Fetched es on i j × (lacking (after on) i j ≡ drop MAX_LETTER_ENTRIES (lacking (after es) i j)))
   unfolding all_hand_on
   bring es few =
       record {
@@ -98,7 +99,7 @@ module _ (i j : ℕ) (low : i < huts) (lt : j < huts) (apart : Apart i j) where
   ]
   fetch_for (suc fuel) es few enough =
       then_on few (bring es few)
-      (λ on more h. walk-map (fetch_for fuel on more (omega (arith, ap length h.1, length-drop 1024 (lacking (after es) i j)))) (λ end g. (fetched_on es on end i j apart h.0 g.0, g.1)))
+      (λ on more h. walk-map (fetch_for fuel on more (omega (arith, ap length h.1, length-drop MAX_LETTER_ENTRIES (lacking (after es) i j)))) (λ end g. (fetched_on es on end i j apart h.0 g.0, g.1)))
 
   pub fetch : (es : List Event) → Roomy es → WalkTo es (λ on. Fetched es on i j × Caught (after on) i j)
   fetch es few = fetch_for (length (lacking (after es) i j)) es few (omega arith)

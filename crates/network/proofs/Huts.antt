@@ -3,6 +3,7 @@ use Rattle.std.proofs.Common.{◌≡◌, ◌≢◌, ℕ, ◌+◌, ◌<◌, ◌�
 use Rattle.std.specs.List.{AllWithin, HoldsAt}
 use Rattle.std.proofs.lemmas.Bool.{cases_eq, cases_lt}
 use Rattle.std.proofs.lemmas.List.{get_or-map, get_or-take, get_or_append_left, get_or_push, length-map, length-take-le, map_push, take_all, take_more}
+use Rattle.bookings.specs.declared.limits.TheConstants.{HUTS}
 use Rattle.journal.specs.History.{empty}
 use Rattle.journal.specs.Keeping.{InStep, InMemory, most_bytes, state_by}
 use Rattle.replica.specs.Model.{State, fresh}
@@ -36,7 +37,7 @@ module _ (hs : List ℕ) (n : ℕ) (qs : List Hut) (are : map (λ q. state_by q)
       ∙ ap (λ (s : State). s.hut) (get_or-map fresh (take n hs) i 0 (fresh 0) (omega (arith, length-take-le n hs few))) ∙ get_or-take n hs i 0 below
 
   -- each hut of a cast can join those before it
-  pub can_join : CastOk hs → n < length hs → (get_or hs n 0 < 16) × Absent (get_or hs n 0) qs
+  pub can_join : CastOk hs → n < length hs → (get_or hs n 0 < HUTS) × Absent (get_or hs n 0) qs
   can_join fine below = (
     fine.2 n below,
     λ i within same. let before : i < n = omega (arith, within, as_many) in fine.3 i n before below (sym (of_hut i before) ∙ same),
@@ -75,7 +76,7 @@ module _ (hs : List ℕ) (s : Stage) (are : map (λ q. state_by q) (huts_of s) �
   at i within = of_hut hs (length hs) qs are (omega arith) i (below i within)
 
   starts :
-      vec_items s.letters ≡ [] → ((i : ℕ) → i < length hs → get_or hs i 0 < 16)
+      vec_items s.letters ≡ [] → ((i : ℕ) → i < length hs → get_or hs i 0 < HUTS)
       → ((i j : ℕ) → i < j → j < length hs → get_or hs i 0 ≡ get_or hs j 0 → ⊥)
       → ((i : ℕ) (q : Hut) → i < length hs → InStep InMemory (get_or qs i q) (empty (state_by (get_or qs i q)).hut))
       → ((i : ℕ) (q : Hut) → i < length hs → most_bytes < vec_capacity (get_or qs i q).journal.medium.held) → Stands s []
@@ -104,7 +105,7 @@ module _ (hs : List ℕ) (s : Stage) (are : map (λ q. state_by q) (huts_of s) �
 -- so they are when all huts have joined
 pub starts_at :
     (hs : List ℕ) (n : ℕ) (s : Stage) → length hs ≤ n → map (λ q. state_by q) (huts_of s) ≡ map fresh (take n hs) → vec_items s.letters ≡ []
-    → ((i : ℕ) → i < n → get_or hs i 0 < 16) → ((i j : ℕ) → i < j → j < n → get_or hs i 0 ≡ get_or hs j 0 → ⊥)
+    → ((i : ℕ) → i < n → get_or hs i 0 < HUTS) → ((i j : ℕ) → i < j → j < n → get_or hs i 0 ≡ get_or hs j 0 → ⊥)
     → ((i : ℕ) (q : Hut) → i < n → InStep InMemory (get_or (huts_of s) i q) (empty (state_by (get_or (huts_of s) i q)).hut))
     → ((i : ℕ) (q : Hut) → i < n → most_bytes < vec_capacity (get_or (huts_of s) i q).journal.medium.held) → Stands s []
 starts_at hs n s all are none small differ in_step room =

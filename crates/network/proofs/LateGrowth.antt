@@ -9,6 +9,7 @@ use Rattle.journal.specs.History.{Kept, PlainRecord, history_of}
 use Rattle.entry_log.proofs.Stamps.{vector_at}
 use Rattle.entry_log.specs.Vectors.{highest, vector_of}
 use Rattle.entry_log.specs.Waits.{PlainWaiting}
+use Rattle.entry_log.specs.declared.waiting.TheConstants.{MAX_LETTER_ENTRIES}
 use Rattle.replica.specs.Model.{capacity}
 use Rattle.replica.specs.Parcels.{missing, parcel_of}
 use Rattle.letters.specs.Items.{placed_from, waiting}
@@ -216,9 +217,9 @@ module _
 
     pub letter-grows : AllSaid n asked
         → Got (history_of k) (history_of (items_taken asked (n.hut j)))
-        ⊎ (measure b + 1024 ≤ measure (history_of (items_taken asked (n.hut j))))
+        ⊎ (measure b + MAX_LETTER_ENTRIES ≤ measure (history_of (items_taken asked (n.hut j))))
     unfolding parcel_of
-    letter-grows said = elim (cases_lt 1024 (lacked k theirs b mine 1024)) [
-      | inl lt ↦ inr (brings-more k theirs b mine 1024 said lt)
-      | inr le ↦ inl (brings-all k theirs b mine 1024 said le)
+    letter-grows said = elim (cases_lt MAX_LETTER_ENTRIES (lacked k theirs b mine MAX_LETTER_ENTRIES)) [
+      | inl lt ↦ inr (brings-more k theirs b mine MAX_LETTER_ENTRIES said lt)
+      | inr le ↦ inl (brings-all k theirs b mine MAX_LETTER_ENTRIES said le)
     ]

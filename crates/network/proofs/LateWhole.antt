@@ -7,6 +7,7 @@ use Rattle.bookings.specs.Plain.{PlainEntry}
 use Rattle.journal.specs.History.{Kept, PlainRecord, history_of}
 use Rattle.entry_log.proofs.Stamps.{vector_at}
 use Rattle.entry_log.specs.Vectors.{vector_of}
+use Rattle.entry_log.specs.declared.waiting.TheConstants.{MAX_LETTER_ENTRIES}
 use Rattle.replica.specs.Model.{capacity}
 use Rattle.replica.specs.Parcels.{missing, parcel_of}
 use Rattle.letters.specs.Items.{placed_from, waiting}
@@ -165,4 +166,4 @@ module _
     pub letter-brought : AllSaid n (words_for (length (committed_of b)) (vector_of (entries_of b))
         k) → Brought (words_for (length (committed_of b)) (vector_of (entries_of b)) k) (n.hut j)
     unfolding parcel_of
-    letter-brought said = parts-brought 1024 said
+    letter-brought said = parts-brought MAX_LETTER_ENTRIES said

@@ -5,8 +5,11 @@ use mathlib.Core.List.Memᴰ
 use Rattle.bookings.proofs.Each.{each_map}
 use Rattle.bookings.specs.Plain.{PlainEntry}
 use Rattle.bookings.specs.Ranges.{Each}
+use Rattle.bookings.specs.declared.limits.TheConstants.{HUTS}
+use Rattle.bookings.specs.declared.book.TheConstants.{CAPACITY}
 use Rattle.entry_log.proofs.Stamps.{vector_long}
 use Rattle.entry_log.specs.Vectors.{highest, vector_of}
+use Rattle.entry_log.specs.declared.waiting.TheConstants.{MAX_LETTER_ENTRIES}
 use Rattle.journal.proofs.Standing.{log_bounded}
 use Rattle.journal.specs.History.{PlainRecord, Tentative, Committed, history_of, state_in}
 use Rattle.journal.specs.Records.{Stands}
@@ -51,7 +54,7 @@ highest_fits (e ∷ es) f h =
 
 vector_fits : (es : List PlainEntry) → Fit es → Each (λ n. n < 2 ^ 32) (vector_of es)
 unfolding vector_of
-vector_fits es f = each_map (highest es) (λ n. n < 2 ^ 32) (range_with_len 0 16) (highest_fits es f)
+vector_fits es f = each_map (highest es) (λ n. n < 2 ^ 32) (range_with_len 0 HUTS) (highest_fits es f)
 
 missing_fit : (has : List ℕ) (before es : List PlainEntry) → Fit before → Fit es → Each WaitingOk (missing has before es)
 missing_fit has before [] b f = tt
@@ -73,10 +76,10 @@ some_there zero some = absurd (some tt)
 some_there (suc n) some = omega arith
 
 -- the first committed entry has a place that a letter can hold
-place_fits : (count : ℕ) (cs : List PlainEntry) → length cs ≤ 65536 → cond (length (take 1024 (drop count cs)) == 0) 0 count < 2 ^ 32
+place_fits : (count : ℕ) (cs : List PlainEntry) → length cs ≤ CAPACITY → cond (length (take MAX_LETTER_ENTRIES (drop count cs)) == 0) 0 count < 2 ^ 32
 place_fits count cs few =
-    cond_by (λ n. n < 2 ^ 32) (length (take 1024 (drop count cs)) == 0) 0 count (λ _. omega arith)
-    (λ some. omega (arith, some_there (length (take 1024 (drop count cs))) some, length-take 1024 (drop count cs), length-drop count cs))
+    cond_by (λ n. n < 2 ^ 32) (length (take MAX_LETTER_ENTRIES (drop count cs)) == 0) 0 count (λ _. omega arith)
+    (λ some. omega (arith, some_there (length (take MAX_LETTER_ENTRIES (drop count cs))) some, length-take MAX_LETTER_ENTRIES (drop count cs), length-drop count cs))
 
 pub hands_on_letters : HandsOnLetters
 unfolding parcel_of
@@ -87,7 +90,7 @@ hands_on_letters k ok count has =
     let ts : Fit (tentative_of rs) = λ e m. fits e (Memᴰ.append_right (committed_of rs) m) in
     record {
       place_ok = place_fits count (committed_of rs) (omega (arith, log_bounded k.hut rs ok, length-append (committed_of rs) (tentative_of rs)));
-      committed_ok = each_take EntryOk 1024 _ (each_drop EntryOk count (committed_of rs) (each_of (committed_of rs) cs));
+      committed_ok = each_take EntryOk MAX_LETTER_ENTRIES _ (each_drop EntryOk count (committed_of rs) (each_of (committed_of rs) cs));
       tentative_ok = each_take WaitingOk _ _ (missing_fit has (committed_of rs) (tentative_of rs) cs ts);
       few = parcel_is_small_lem count has (state_in k);
     }

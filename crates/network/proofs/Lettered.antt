@@ -1,5 +1,6 @@
 -- The letter that is written is the one that the replica's parcel makes.
-use Rattle.std.proofs.Common.{◌≡◌, ℕ, ◌<◌, ◌≤◌, cond, eqb, List, map, length, sym, ap, ◌∙◌, inl, inr, arith, length-drop, length-take}
+use Rattle.std.proofs.Common.{◌≡◌, ℕ, ◌^◌, ◌<◌, ◌≤◌, cond, eqb, List, map, length, sym, ap, ◌∙◌, inl, inr, arith, length-drop, length-take}
+use Rattle.bookings.specs.declared.book.TheConstants.{CAPACITY}
 use lib.ListN.{length-map}
 use Rattle.std.proofs.lemmas.Bool.{cases_lt, eq-eqb, cond-true}
 use Rattle.bookings.specs.Plain.{PlainEntry, plain}
@@ -18,7 +19,7 @@ none_behind count has cs ts beyond = simp (length-take, length-drop) (omega arit
 
 module _ (count : ℕ) (has : List ℕ) (s : State) (es : List Entry) (ws : List Waiting) (place : ℕ) where
   pub letter_is :
-      length s.log.committed ≤ 65536 → (count < 4294967296 → place ≡ count) → map plain es ≡ (parcel_for count has s).committed → map plain_waiting ws ≡ (parcel_for count has s).tentative
+      length s.log.committed ≤ CAPACITY → (count < 2 ^ 32 → place ≡ count) → map plain es ≡ (parcel_for count has s).committed → map plain_waiting ws ≡ (parcel_for count has s).tentative
       → letter_of place es ws ≡ letter_for count has s
   letter_is few placed es-is ws-is =
       ap (λ p. record { place = p; committed = map plain es; tentative = map plain_waiting ws }) place_is
@@ -31,7 +32,7 @@ module _ (count : ℕ) (has : List ℕ) (s : State) (es : List Entry) (ws : List
       place_is : cond (eqb (length es) 0) 0 place ≡ cond (eqb (length (parcel_for count has s).committed) 0) 0 count
       place_is =
           ap (λ n. cond (eqb n 0) 0 place) many
-          ∙ elim (cases_lt count 4294967296) [
+          ∙ elim (cases_lt count (2 ^ 32)) [
             | inl lt ↦ ap (λ p. cond (eqb (length (parcel_for count has s).committed) 0) 0 p) (placed lt)
             | inr ge ↦
                 let none = none_behind count has s.log.committed s.log.tentative (omega arith) in

@@ -1,5 +1,6 @@
 -- What the items of a letter are, whoever it is for.
 use Rattle.std.proofs.Common.{◌≡◌, ℕ, zero, suc, ◌+◌, ◌-◌, leb, List, [], ◌∷◌, ◌++◌, map, length, get_or, take, drop, sym, refl, ap, ◌∙◌, subst, append_assoc, arith, length-append}
+use Rattle.entry_log.specs.declared.waiting.TheConstants.{MAX_LETTER_ENTRIES}
 use mathlib.Core.List.Memᴰ
 use mathlib.Core.List.{Memᴰ}
 use Rattle.std.proofs.lemmas.List.{take-map}
@@ -46,10 +47,10 @@ pub placed_length : (p : ℕ) (l : List PlainEntry) → length (placed_from p l)
 placed_length p [] = refl
 placed_length p (e ∷ l) = ap suc (placed_length (suc p) l)
 
--- a letter is the first 1,024 items of all
-pub letter-first : (count : ℕ) (has : List ℕ) (k : Kept) → words_for count has k ≡ take 1024 (all_for count has k)
+-- a letter is the first items of all, as many as it can have
+pub letter-first : (count : ℕ) (has : List ℕ) (k : Kept) → words_for count has k ≡ take MAX_LETTER_ENTRIES (all_for count has k)
 unfolding parcel_of
-letter-first count has k = bounded 1024 (drop count (committed_in k)) (missing has (committed_in k) (tentative_in k))
+letter-first count has k = bounded MAX_LETTER_ENTRIES (drop count (committed_in k)) (missing has (committed_in k) (tentative_in k))
   where
     bounded :
         (n : ℕ) (cs : List PlainEntry) (ws : List PlainWaiting)
@@ -104,7 +105,7 @@ all_item count has k w d =
     (λ b. let t = missing_item has (committed_in k) (tentative_in k) w b in subst (Written k) (sym t.4) (t.0, t.1, t.3, refl))
 
 pub letter_item : (count : ℕ) (has : List ℕ) (k : Kept) (w : PlainItem) → Memᴰ w (words_for count has k) → Written k w
-letter_item count has k w d = all_item count has k w (take_mem 1024 _ (subst (Memᴰ w) (letter-first count has k) d))
+letter_item count has k w d = all_item count has k w (take_mem MAX_LETTER_ENTRIES _ (subst (Memᴰ w) (letter-first count has k) d))
 
 -- the entry of an item
 abbrev pub in_item : PlainItem → PlainEntry

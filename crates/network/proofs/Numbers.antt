@@ -1,5 +1,6 @@
 -- The highest stamps of a list of entries, and which vectors cover which.
 use Rattle.std.proofs.Common.{◌≡◌, ℕ, zero, suc, ◌+◌, ◌<◌, ◌≤◌, max, true, List, [], ◌∷◌, length, get_or, sym, refl, ap, inl, inr, arith}
+use Rattle.bookings.specs.declared.limits.TheConstants.{HUTS}
 use mathlib.Core.List.Memᴰ
 use Rattle.std.proofs.lemmas.Bool.{cases_eq, cases_lt, eq-eqb, false≢true, le-leb, lt-leb, ne_eqb}
 use Rattle.bookings.proofs.Over.{length_over, over-inside}
@@ -75,11 +76,11 @@ covers_from_all a b h (suc n) all =
 
 pub covers_at : (a b : List ℕ) → covers a b ≡ true → (h : ℕ) → h < huts → get_or b h 0 ≤ get_or a h 0
 unfolding covers
-covers_at a b t h l = covers_from-at a b 0 16 t h (omega arith) (omega arith)
+covers_at a b t h l = covers_from-at a b 0 HUTS t h (omega arith) (omega arith)
 
 pub covers_all : (a b : List ℕ) → ((h : ℕ) → h < huts → get_or b h 0 ≤ get_or a h 0) → covers a b ≡ true
 unfolding covers
-covers_all a b all = covers_from_all a b 0 16 (λ h l u. all h (omega arith))
+covers_all a b all = covers_from_all a b 0 HUTS (λ h l u. all h (omega arith))
 
 -- an entry's stamp is up to that of its hut in the vector of a list that has it
 pub vector_above : (k : PlainEntry) (l : List PlainEntry) → k ∈ l → k.mark.hut < huts → k.mark.stamp ≤ get_or (vector_of l) k.mark.hut 0
@@ -92,8 +93,8 @@ covers_known a b sub = covers_all (vector_of a) (vector_of b) (λ h l. omega (ar
 -- two vectors joined
 pub joined_at : (a b : List ℕ) (h : ℕ) → length a ≡ huts → h < huts → get_or (joined_with a b) h 0 ≡ max (get_or a h 0) (get_or b h 0)
 unfolding joined_with
-joined_at a b h long low = over-inside (λ k s. max s (get_or b k 0)) a 0 16 h (omega arith) (omega arith) (omega arith)
+joined_at a b h long low = over-inside (λ k s. max s (get_or b k 0)) a 0 HUTS h (omega arith) (omega arith) (omega arith)
 
 pub joined_long : (a b : List ℕ) → length (joined_with a b) ≡ length a
 unfolding joined_with
-joined_long a b = length_over (λ k s. max s (get_or b k 0)) a 0 16
+joined_long a b = length_over (λ k s. max s (get_or b k 0)) a 0 HUTS

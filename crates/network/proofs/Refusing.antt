@@ -4,6 +4,7 @@ use lib.Dec.{not_T}
 use Rattle.std.proofs.lemmas.Bool.{cases_lt}
 use Rattle.bookings.specs.Books.{named_by}
 use Rattle.bookings.specs.Plain.{PlainEntry, PlainKind, PlainMark}
+use Rattle.bookings.specs.declared.limits.TheConstants.{HUTS}
 use Rattle.entry_log.proofs.Stamps.{vector_at}
 use Rattle.entry_log.specs.Logs.{all_of, has}
 use Rattle.entry_log.specs.Vectors.{covers, covers_from, highest, vector_of}
@@ -101,7 +102,7 @@ covers-or_lacks a b h (suc n) =
 pub lacks_says :
     (v : List ℕ) (s : State) → T (not (covers (vector_of (all_of s.log)) v)) → SaysMore v s
 unfolding covers
-lacks_says v s t = elim (covers-or_lacks (vector_of (all_of s.log)) v 0 16) [
+lacks_says v s t = elim (covers-or_lacks (vector_of (all_of s.log)) v 0 HUTS) [
   | inl q ↦ absurd (subst (λ (b : Bool). T (not b)) q t)
   | inr (h, low, lt) ↦
       let at = vector_at (all_of s.log) h (omega (arith, low)) in (

@@ -1,6 +1,7 @@
 -- Each round of letters brings all that its writer has, or 1,024 items that were not there.
 use Rattle.std.proofs.Common.{◌≡◌, ◌≢◌, ℕ, zero, suc, ◌+◌, ◌*◌, ◌<◌, ◌≤◌, ◌⊎◌, ltb, List, [], ◌∷◌, ◌++◌, length, sym, ap, ◌∙◌, subst, inl, inr, arith, length-append, lt→ltb}
 use Rattle.bookings.specs.Plain.{PlainEntry}
+use Rattle.entry_log.specs.declared.waiting.TheConstants.{MAX_LETTER_ENTRIES}
 use Rattle.journal.specs.History.{Kept, PlainRecord, history_of, synced}
 use Rattle.replica.specs.Model.{capacity}
 use Rattle.network.specs.Items.{items_taken}
@@ -121,13 +122,13 @@ module _
       length every + (makings between + makings later) < capacity → (rs : List PlainRecord)
       → Older rs (durables n i)
       → Got rs (durables (run (round n between later i j) n) j)
-      ⊎ (measure (durables n j) + 1024 ≤ measure (durables (run (round n between later i j) n) j))
+      ⊎ (measure (durables n j) + MAX_LETTER_ENTRIES ≤ measure (durables (run (round n between later i j) n) j))
   one-round few rs o =
       let k = (before_letter n between j).hut i in
       let m = coming n I between later i j low lt in
       let end = history_of (items_taken (late_letter n between i j) (m.hut j)) in
       let s = second n I between later i j low lt in
-      subst (λ (x : List PlainRecord). Got rs x ⊎ (measure (durables n j) + 1024 ≤ measure x))
+      subst (λ (x : List PlainRecord). Got rs x ⊎ (measure (durables n j) + MAX_LETTER_ENTRIES ≤ measure x))
       (sym round_leaves)
       (elim (letter-grows m s.2.holds (few-made n I between later i j low lt few) i j k
       (theirs-last n I between later i j low lt) (history_of (said_by n j))
@@ -141,7 +142,7 @@ module _ (i j : ℕ) (low : i < huts) (lt : j < huts) where
       (count : ℕ) {every : List PlainEntry} (n : Net) → Holds every n → (es : List Event)
       → length every + makings es < capacity → Rounds count i j n es
       → (rs : List PlainRecord) → Older rs (durables n i) → Got rs (durables (run es n) j)
-      ⊎ (measure (durables n j) + count * 1024 ≤ measure (durables (run es n) j))
+      ⊎ (measure (durables n j) + count * MAX_LETTER_ENTRIES ≤ measure (durables (run es n) j))
   rounds-grow zero n I es few r rs o =
       let m = run es n in
       let b = run_becomes es n I in
@@ -152,7 +153,7 @@ module _ (i j : ℕ) (low : i < huts) (lt : j < huts) where
       ))
   rounds-grow (suc count) {every} n I es few (before, between, later, rest, q, more) rs o =
       subst (λ (m : Net). Got rs (durables m j)
-      ⊎ (measure (durables n j) + suc count * 1024 ≤ measure (durables m j))) (sym is)
+      ⊎ (measure (durables n j) + suc count * MAX_LETTER_ENTRIES ≤ measure (durables m j))) (sym is)
       (elim (one-round n1 a.2.holds between later i j low lt
       (omega (arith, few, a.1, parts, middle)) rs o1) [
         | inl g ↦
@@ -219,7 +220,7 @@ module _ (i j : ℕ) (low : i < huts) (lt : j < huts) where
   pub rounds-got :
       (count : ℕ) {every : List PlainEntry} (n : Net) → Holds every n → (es : List Event)
       → length every + makings es < capacity
-      → 2 * (length every + makings es) < count * 1024 → (i ≢ j → Rounds count i j n es)
+      → 2 * (length every + makings es) < count * MAX_LETTER_ENTRIES → (i ≢ j → Rounds count i j n es)
       → Got (durables n i) (durables (run es n) j)
   rounds-got count n I es few much r = by_same i j here (λ apart. between (r (other i j apart)))
     where

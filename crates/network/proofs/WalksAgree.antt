@@ -3,6 +3,7 @@ use Rattle.std.proofs.Common.{◌≡◌, ◌≢◌, ℕ, ◌*◌, ◌<◌, ◌�
 use mathlib.Core.List.Memᴰ
 use lib.Dec.{eqb_refl}
 use Rattle.bookings.specs.Plain.{PlainEntry}
+use Rattle.entry_log.specs.declared.waiting.TheConstants.{MAX_LETTER_ENTRIES}
 use Rattle.replica.specs.Model.{capacity}
 use Rattle.network.specs.Lasting.{Somewhere}
 use Rattle.network.specs.Net.{Net, after, huts}
@@ -39,7 +40,7 @@ other i c apart p = apart (subst (λ (x : ℕ). T (eqb i x)) p (eqb_refl i))
 
 module _
     {every : List PlainEntry} (few : length every < capacity) (count : ℕ)
-    (much : 2 * length every < count * 1024) (c : ℕ) (low : c < huts) where
+    (much : 2 * length every < count * MAX_LETTER_ENTRIES) (c : ℕ) (low : c < huts) where
   -- enough walks to the primary: it knows all
   gathered :
       (first : List Move) → ((i : ℕ) → i < huts → i ≢ c → count ≤ walks i c first) → (n : Net)

@@ -3,6 +3,7 @@ use Rattle.std.proofs.Common.{◌≡◌, ℕ, suc, ◌+◌, ◌*◌, ◌<◌, �
 use Rattle.std.proofs.lemmas.Bool.{cases_lt}
 use Rattle.std.proofs.lemmas.List.{drop_all}
 use Rattle.bookings.specs.Plain.{PlainEntry}
+use Rattle.entry_log.specs.declared.waiting.TheConstants.{MAX_LETTER_ENTRIES}
 use Rattle.journal.specs.History.{Committed, Kept, PlainRecord, Tentative, history_of}
 use Rattle.replica.specs.Model.{capacity}
 use Rattle.network.specs.Items.{Letter, items_taken, takes}
@@ -101,14 +102,14 @@ module _
     (lt : j < huts) (apart : Apart i j) where
   -- one walk brings all, or 1,024 records
   walk-brings : (n : Net) → Holds every n → Got (histories n i) (histories (exchange n i j) j)
-      ⊎ (length (histories n j) + 1024 ≤ length (histories (exchange n i j) j))
+      ⊎ (length (histories n j) + MAX_LETTER_ENTRIES ≤ length (histories (exchange n i j) j))
   walk-brings n I =
-      elim (cases_lt 1024 (length (lacking n i j))) [
+      elim (cases_lt MAX_LETTER_ENTRIES (length (lacking n i j))) [
         | inl more ↦
             let first =
             letter-first (length (committed_in (n.hut j))) (vector_in (n.hut j)) (n.hut i) in
-            let long : length (letter_to n i j) ≡ 1024 =
-            ap length first ∙ length-take 1024 (lacking n i j) ∙ omega (arith, more) in
+            let long : length (letter_to n i j) ≡ MAX_LETTER_ENTRIES =
+            ap length first ∙ length-take MAX_LETTER_ENTRIES (lacking n i j) ∙ omega (arith, more) in
             let is =
             ap (λ (k : Kept). length (history_of k))
             (exchange_reader n i j low lt (apart_turned i j apart)) in
@@ -120,7 +121,7 @@ module _
                   (letter-whole n I few i j apart).0,
             ))
         | inr le ↦
-            inl (all (exchange-left i j low lt n I few apart ∙ drop_all 1024 (lacking n i j) le))
+            inl (all (exchange-left i j low lt n I few apart ∙ drop_all MAX_LETTER_ENTRIES (lacking n i j) le))
       ]
     where
       all : lacking (exchange n i j) i j ≡ [] → Got (histories n i) (histories (exchange n i j) j)
@@ -136,7 +137,7 @@ module _
           ]
 
   move-brings : (m : Move) (n : Net) → Holds every n → Got (histories n i) (histories (move m n) j)
-      ⊎ (length (histories n j) + walks i j (m ∷ []) * 1024 ≤ length (histories (move m n) j))
+      ⊎ (length (histories n j) + walks i j (m ∷ []) * MAX_LETTER_ENTRIES ≤ length (histories (move m n) j))
   unfolding walks
   move-brings (Commit a) n I = inr (longer (Commit a) n)
     where
@@ -146,15 +147,15 @@ module _
           move_older m n j in omega (arith, ap length o.1, length-append o.0 (histories n j))
   move-brings (Walk a b) n I =
       cond_by (λ (x : ℕ). Got (histories n i) (histories (move (Walk a b) n) j)
-      ⊎ (length (histories n j) + x * 1024 ≤ length (histories (move (Walk a b) n) j)))
+      ⊎ (length (histories n j) + x * MAX_LETTER_ENTRIES ≤ length (histories (move (Walk a b) n) j)))
       (eqb a i && eqb b j) 1 0
       (λ t.
       let s = and_has (eqb a i) (eqb b j) t in
       subst (λ (x : ℕ). Got (histories n i) (histories (exchange n x b) j)
-      ⊎ (length (histories n j) + 1024 ≤ length (histories (exchange n x b) j)))
+      ⊎ (length (histories n j) + MAX_LETTER_ENTRIES ≤ length (histories (exchange n x b) j)))
       (sym (eqb→eq a i s.0))
       (subst (λ (y : ℕ). Got (histories n i) (histories (exchange n i y) j)
-      ⊎ (length (histories n j) + 1024 ≤ length (histories (exchange n i y) j)))
+      ⊎ (length (histories n j) + MAX_LETTER_ENTRIES ≤ length (histories (exchange n i y) j)))
       (sym (eqb→eq b j s.1))
       (walk-brings n I)))
       (λ _. let o = move_older (Walk a b) n j in inr
@@ -164,7 +165,7 @@ module _
       (ms : List Move) (n : Net) → Holds every n → (rs : List PlainRecord)
       → Older rs (histories n i)
       → Got rs (histories (moved ms n) j)
-      ⊎ (length (histories n j) + walks i j ms * 1024 ≤ length (histories (moved ms n) j))
+      ⊎ (length (histories n j) + walks i j ms * MAX_LETTER_ENTRIES ≤ length (histories (moved ms n) j))
   unfolding moved walks
   moves-bring [] n I rs o = inr (omega arith)
   moves-bring (m ∷ ms) n I rs o =
@@ -189,7 +190,7 @@ module _
 -- all that is known, whatever other walks there are
 pub walks-got :
     {every : List PlainEntry} → length every < capacity → (count : ℕ)
-    → 2 * length every < count * 1024 → (i j : ℕ) → i < huts → j < huts → (ms : List Move)
+    → 2 * length every < count * MAX_LETTER_ENTRIES → (i j : ℕ) → i < huts → j < huts → (ms : List Move)
     → (Apart i j → count ≤ walks i j ms)
     → (n : Net) → Holds every n → Got (histories n i) (histories (moved ms n) j)
 walks-got {every} few count much i j low lt ms enough n I =

@@ -1,5 +1,6 @@
 -- A letter for what a replica has is taken whole, and what is then lacking is what it had no room for.
-use Rattle.std.proofs.Common.{◌≡◌, ℕ, ◌<◌, eqb, List, [], ◌∷◌, ◌++◌, length, take, drop, None, sym, refl, ap, ◌∙◌, subst, inl, inr, arith, take-append-drop}
+use Rattle.std.proofs.Common.{◌≡◌, ℕ, ◌-◌, ◌<◌, eqb, List, [], ◌∷◌, ◌++◌, length, take, drop, None, sym, refl, ap, ◌∙◌, subst, inl, inr, arith, take-append-drop}
+use Rattle.entry_log.specs.declared.waiting.TheConstants.{MAX_LETTER_ENTRIES}
 use mathlib.Core.List.{Memᴰ}
 use lib.Dec.{eqb_refl}
 use Rattle.bookings.specs.Plain.{PlainEntry}
@@ -79,11 +80,11 @@ module _ {every : List PlainEntry} (n : Net) (I : Holds every n) (few : length e
       subst (λ (x : Kept). Becomes every (after_sync n I i) (with_reader x)) (hut_other j i (synced (n.hut i)) n (apart_turned i j apart))
       (same_step (after_sync n I i) (sync_step n I i).holds j)
 
-  pub letter-whole : AllTaken (letter_to n i j) (n.hut j) × (lacking_in (n.hut i) (items_taken (letter_to n i j) (n.hut j)) ≡ drop 1024 (lacking n i j))
+  pub letter-whole : AllTaken (letter_to n i j) (n.hut j) × (lacking_in (n.hut i) (items_taken (letter_to n i j) (n.hut j)) ≡ drop MAX_LETTER_ENTRIES (lacking n i j))
   letter-whole =
-      subst (λ (l : Letter). AllTaken l (n.hut j) × (lacking_in (n.hut i) (items_taken l (n.hut j)) ≡ drop 1024 (lacking n i j)))
+      subst (λ (l : Letter). AllTaken l (n.hut j) × (lacking_in (n.hut i) (items_taken l (n.hut j)) ≡ drop MAX_LETTER_ENTRIES (lacking n i j)))
       (sym (letter-first (length (committed_in (n.hut j))) (vector_in (n.hut j)) (n.hut i)))
-      (whole (take 1024 (lacking n i j)) (drop 1024 (lacking n i j)) (n.hut j) untouched (sym (take-append-drop 1024 (lacking n i j))))
+      (whole (take MAX_LETTER_ENTRIES (lacking n i j)) (drop MAX_LETTER_ENTRIES (lacking n i j)) (n.hut j) untouched (sym (take-append-drop MAX_LETTER_ENTRIES (lacking n i j))))
 
 -- what a replica can write it does not take
 taken_new : (k : Kept) (w : PlainItem) → Written k w → refusal_of w (state_in k) ≡ None → ⊥
@@ -102,7 +103,7 @@ all_taken n I few i j =
     by_same i j
     (λ p.
     subst (λ (h : ℕ). AllTaken (letter_to n h j) (n.hut j)) (sym p)
-    (subst (λ (l : Letter). AllTaken l (n.hut j)) (sym (letter-first (length (committed_in (n.hut j))) (vector_in (n.hut j)) (n.hut j) ∙ ap (take 1024) (lacks_none n I few j))) tt))
+    (subst (λ (l : Letter). AllTaken l (n.hut j)) (sym (letter-first (length (committed_in (n.hut j))) (vector_in (n.hut j)) (n.hut j) ∙ ap (take MAX_LETTER_ENTRIES) (lacks_none n I few j))) tt))
     (λ apart. (letter-whole n I few i j apart).0)
 
 -- fewer entries were ever made than there is room for
@@ -123,5 +124,5 @@ letters_bring es few i j = (
   where
     nothing : Following ((after es).hut i) ((after es).hut j) → letter_to (after es) i j ≡ [] → ⊥
     nothing f q =
-        front_not_nil f.w [] (take 1023 f.ws)
-        (sym q ∙ letter-first (length (committed_in ((after es).hut j))) (vector_in ((after es).hut j)) ((after es).hut i) ∙ ap (take 1024) f.is)
+        front_not_nil f.w [] (take (MAX_LETTER_ENTRIES - 1) f.ws)
+        (sym q ∙ letter-first (length (committed_in ((after es).hut j))) (vector_in ((after es).hut j)) ((after es).hut i) ∙ ap (take MAX_LETTER_ENTRIES) f.is)

@@ -1,6 +1,7 @@
 -- Sixteen replicas that hand letters on to each other, late, twice or never, and crash at any time. Hut 0 is the primary.
 use Rattle.std.specs.Prelude.{ℕ, zero, suc, Bool, cond, List, [], ◌∷◌, ◌++◌, Some, None, Option, ◌==◌, nat_lt}
 use Rattle.bookings.specs.Plain.{PlainKind, PlainEntry}
+use Rattle.bookings.specs.declared.limits.TheConstants.{HUTS}
 use Rattle.journal.specs.History.{Kept, empty, state_in, synced, crashed, makes, commits}
 use Rattle.entry_log.specs.Vectors.{vector_of, no_stamps, joined_with}
 use Rattle.replica.specs.Model.{entry_made, make_refusal, serves, slip_after}
@@ -23,7 +24,7 @@ abbrev pub start : Net
 start = record { hut = empty; sent = []; guest = λ g. record { slip = no_stamps; gave = []; seen = [] } }
 
 abbrev pub huts : ℕ
-huts = 16
+huts = HUTS
 
 -- `Commits i`: any hut may try, and the primary does; `Writes i count has`: hut i syncs and writes a letter for one who says to have that,
 -- true or not; `Takes j nth`: hut j takes a letter of those ever written, from 0; `TakesBut leaves j nth`: it leaves some of it; `Damaged j`: bytes that are no letter come to hut j;

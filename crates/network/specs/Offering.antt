@@ -6,6 +6,7 @@ use Rattle.bookings.specs.Plain.{PlainEntry}
 use Rattle.entry_log.specs.Order.{Once}
 use Rattle.entry_log.specs.Vectors.{vector_of}
 use Rattle.entry_log.specs.Waits.{PlainWaiting}
+use Rattle.entry_log.specs.declared.waiting.TheConstants.{MAX_LETTER_ENTRIES}
 use Rattle.journal.specs.History.{Kept}
 use Rattle.letters.specs.Items.{PlainItem, settled, waiting}
 use Rattle.network.specs.Items.{all_for, words_for}
@@ -47,7 +48,7 @@ pub record Offers (count : ℕ) (has : List ℕ) (k : Kept) : Type 0 where
       × (TentativeAbove has k w → Memᴰ (waiting w) (all_for count has k))
   pub in_order : PartOf (map entry_in (all_for count has k)) (entries_in k)
   pub once : Once (entries_in k) → Once (map entry_in (all_for count has k))
-  pub first : words_for count has k ≡ take 1024 (all_for count has k)
+  pub first : words_for count has k ≡ take MAX_LETTER_ENTRIES (all_for count has k)
 
 -- LAW: with no bound a letter offers just the committed entries from a place on, each with its
 -- place, and just the tentative ones that a vector lacks, each with the vector of all that stands

@@ -1,5 +1,6 @@
 -- What holds after every list of events: the laws of the network.
 use Rattle.std.specs.Prelude.{◌≡◌, ℕ, zero, suc, ◌*◌, ◌<◌, ◌≤◌, Bool, true, false, ◌&&◌, ◌⊎◌, List, [], ◌∷◌, ◌++◌, length, drop, Some, None, slice_index_or}
+use Rattle.entry_log.specs.declared.waiting.TheConstants.{MAX_LETTER_ENTRIES}
 use mathlib.Core.List.{Memᴰ}
 use Rattle.bookings.specs.Books.{book_of, named_by}
 use Rattle.bookings.specs.Laws.{CameTo}
@@ -187,12 +188,12 @@ abbrev pub exchanges : ℕ → Net → ℕ → ℕ → Net
 exchanges zero n i j = n
 exchanges (suc count) n i j = exchanges count (exchange n i j) i j
 
--- LAW: each letter brings the next 1,024 items of all that is lacking; so of k items ⌈k / 1,024⌉ letters, one after another, bring all.
+-- LAW: each letter brings the next MAX_LETTER_ENTRIES items of all that is lacking; so of k items ⌈k / MAX_LETTER_ENTRIES⌉ letters, one after another, bring all.
 abbrev pub LettersNeeded : List Event → Type 0
 LettersNeeded es =
     makings es < capacity → (i j : ℕ) → i < huts → j < huts → (count : ℕ)
-    → (lacking (exchanges count (after es) i j) i j ≡ drop (count * 1024) (lacking (after es) i j))
-    × (length (lacking (after es) i j) ≤ count * 1024 → Caught (exchanges count (after es) i j) i j)
+    → (lacking (exchanges count (after es) i j) i j ≡ drop (count * MAX_LETTER_ENTRIES) (lacking (after es) i j))
+    × (length (lacking (after es) i j) ≤ count * MAX_LETTER_ENTRIES → Caught (exchanges count (after es) i j) i j)
 
 -- handing on and committing alone: nobody makes anything, and nobody crashes
 abbrev pub hands_on : Event → Bool

@@ -2,6 +2,7 @@
 use Rattle.std.specs.Prelude.{◌≡◌, ◌≢◌, ℕ, zero, suc, ◌*◌, ◌<◌, ◌≤◌, true, List, [], ◌∷◌, ◌++◌, length}
 use mathlib.Core.List.{Memᴰ}
 use Rattle.bookings.specs.Plain.{PlainEntry}
+use Rattle.entry_log.specs.declared.waiting.TheConstants.{MAX_LETTER_ENTRIES}
 use Rattle.journal.specs.History.{state_in}
 use Rattle.replica.specs.Model.{capacity, is_primary}
 use Rattle.network.specs.Late.{before_letter, said_by}
@@ -41,7 +42,7 @@ SyncedCommits (suc count) c n es =
 abbrev pub RoundsBring : List Event → Type 0
 RoundsBring es =
     (later : List Event) → makings (es ++ later) < capacity → (count : ℕ)
-    → 2 * makings (es ++ later) < count * 1024
+    → 2 * makings (es ++ later) < count * MAX_LETTER_ENTRIES
     → (i j : ℕ) → i < huts → j < huts → Rounds count i j (after es) later
     → (length (committed_of ((after es).hut i).durable)
     ≤ length (committed_of ((run later (after es)).hut j).durable))
@@ -54,7 +55,7 @@ RoundsBring es =
 abbrev pub SyncedSettles : List Event → Type 0
 SyncedSettles es =
     (first second third : List Event) → makings (es ++ (first ++ (second ++ third))) < capacity
-    → (count : ℕ) → 2 * makings (es ++ (first ++ (second ++ third))) < count * 1024
+    → (count : ℕ) → 2 * makings (es ++ (first ++ (second ++ third))) < count * MAX_LETTER_ENTRIES
     → (i c j : ℕ) → i < huts → c < huts → j < huts
     → (i ≢ c → Rounds count i c (after es) first)
     → (commits : ℕ) → makings (es ++ (first ++ (second ++ third))) ≤ commits

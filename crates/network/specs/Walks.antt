@@ -2,6 +2,7 @@
 use Rattle.std.specs.Prelude.{◌≡◌, ◌≢◌, ℕ, suc, ◌+◌, ◌*◌, ◌<◌, ◌≤◌, cond, ◌&&◌, List, [], ◌∷◌, ◌++◌, length, ◌==◌}
 use mathlib.Core.List.{Memᴰ}
 use Rattle.bookings.specs.Plain.{PlainEntry}
+use Rattle.entry_log.specs.declared.waiting.TheConstants.{MAX_LETTER_ENTRIES}
 use Rattle.replica.specs.Model.{capacity, leader}
 use Rattle.network.specs.Fairness.{segment}
 use Rattle.network.specs.Lasting.{Lasting, Somewhere}
@@ -36,7 +37,7 @@ tries i (Commit a ∷ ms) = cond (a == i) (suc (tries i ms)) (tries i ms)
 
 -- so many letters hold more than twice as many items as entries were ever made: 128 always do
 abbrev pub Enough : List Event → ℕ → Type 0
-Enough es count = 2 * makings es < count * 1024
+Enough es count = 2 * makings es < count * MAX_LETTER_ENTRIES
 
 -- hut j of one net knows all that hut i of another knows, and has as many committed
 abbrev pub Brings : Net → ℕ → Net → ℕ → Type 0

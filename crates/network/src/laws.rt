@@ -130,7 +130,7 @@ pub fn taken_whole()
     ensures { Always TakenWhole }
 {}
 
-// Each letter brings the next 1,024 items of all that is lacking.
+// Each letter brings the next items of all that is lacking, as many as a letter can have.
 pub fn letters_needed()
     ensures { Always LettersNeeded }
 {}

@@ -1,5 +1,6 @@
 // Replicas over journals in memory, and every letter that they wrote.
 ghost use Rattle.std.specs.Prelude.{◌≤◌, vec_capacity};
+ghost use Rattle.letters.specs.declared.limits.TheConstants.{LETTER_ROOM};
 
 use crate::report::Report;
 use journal::appender::Appender;
@@ -19,5 +20,5 @@ pub struct Stage {
     pub(crate) page: Vec<u8>,
     pub(crate) parcel: Parcel,
     pub(crate) report: Report,
-    ghost room: { 98345 ≤ vec_capacity page },
+    ghost room: { LETTER_ROOM ≤ vec_capacity page },
 }

@@ -1,10 +1,11 @@
 // A letter is written for a replica that has what a summary says.
-ghost use Rattle.std.specs.Prelude.{◌≡◌, ◌+◌, ◌<◌, ◌≤◌, Bool, true, false, is_ok, vec_len, vec_capacity, MatchResult, OnOk};
+ghost use Rattle.std.specs.Prelude.{◌≡◌, ◌+◌, ◌^◌, ◌<◌, ◌≤◌, Bool, true, false, is_ok, vec_len, vec_capacity, MatchResult, OnOk};
 ghost use Rattle.journal.specs.History.{Kept, synced};
 ghost use Rattle.journal.specs.Keeping.{InStep, Moves, Fails, state_by};
 ghost use Rattle.letters.specs.Buffers.{Written};
 ghost use Rattle.letters.specs.Laws.{LetterOk};
 ghost use Rattle.letters.specs.Letters.{encode_letter};
+ghost use Rattle.letters.specs.declared.limits.TheConstants.{LETTER_ROOM};
 ghost use Rattle.network.specs.Taking.{letter_for};
 ghost use Rattle.network.specs.declared.unsent.Unsent.TheVariants.{Failed, NoRoom};
 
@@ -17,7 +18,7 @@ use replica::summary::Summary;
 
 // A place that a letter can hold; none is so high that an entry stands there.
 fn place_from(committed: usize) -> u32
-    ensures { committed < 4294967296 → result ≡ committed }
+    ensures { committed < 2 ^ 32 → result ≡ committed }
 {
     u32::try_from(committed).unwrap_or(0)
 }
@@ -35,9 +36,9 @@ pub fn letter_for<J: Journal + Drop>(
     ensures lawful { OnOk result (LetterOk (letter_for has.now.committed has.now.vector.stamps (state_by keeper.old))) }
     ensures kept { MatchResult result
         (λ _. Moves J.Journal.keeps keeper.old keeper.new synced)
-        (λ e. elim e [ Failed f ↦ Fails J.Journal.keeps J.Journal.finds keeper.old keeper.new (λ k. k) | NoRoom ↦ (vec_len out.old + 98345 ≤ vec_capacity out.old → ⊥) ]) }
+        (λ e. elim e [ Failed f ↦ Fails J.Journal.keeps J.Journal.finds keeper.old keeper.new (λ k. k) | NoRoom ↦ (vec_len out.old + LETTER_ROOM ≤ vec_capacity out.old → ⊥) ]) }
     ensures room { J.Journal.room keeper.old.journal ≤ J.Journal.room keeper.new.journal }
-    ensures sure { (k : Kept) → InStep J.Journal.keeps keeper.old k → 0 < J.Journal.room keeper.old.journal → vec_len out.old + 98345 ≤ vec_capacity out.old → is_ok result ≡ true }
+    ensures sure { (k : Kept) → InStep J.Journal.keeps keeper.old k → 0 < J.Journal.room keeper.old.journal → vec_len out.old + LETTER_ROOM ≤ vec_capacity out.old → is_ok result ≡ true }
 {
     keeper.sync()?;
     // All is synced now, so the replica is shown.

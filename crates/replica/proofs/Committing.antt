@@ -2,6 +2,7 @@
 use Rattle.std.proofs.Common.{◌≡◌, ℕ, ◌+◌, ◌<◌, ◌≤◌, max, true, false, List, Some, [], ◌∷◌, ◌++◌, length, take, sym, refl, ap, ◌∙◌, arith, length-append}
 use Rattle.std.proofs.lemmas.List.{append_assoc, take_at}
 use Rattle.bookings.specs.Plain.{PlainEntry}
+use Rattle.bookings.specs.declared.limits.TheConstants.{HUTS}
 use Rattle.entry_log.proofs.Putting.{length_without, without_none, none_has, has_some, same_self, times-append}
 use Rattle.entry_log.proofs.Stamps.{top-append, top-without, highest-append, highest-cons, highest-without, vector_more, vector_same}
 use Rattle.entry_log.specs.Logs.{PlainLog, all_of, has, without, top, first_entry, add_committed}
@@ -48,7 +49,7 @@ module _ (e : PlainEntry) (l : PlainLog) where
   pub new_top : has e.mark l.tentative ≡ false → top (all_of (add_committed e l)) ≡ max e.mark.stamp (top (all_of l))
   new_top new = omega (arith, committed-top, ap top (without_none e.mark l.tentative new), top-append l.committed l.tentative)
 
-  pub new_vector : has e.mark l.tentative ≡ false → e.mark.hut < 16 → vector_of (all_of (add_committed e l)) ≡ noted e.mark (vector_of (all_of l))
+  pub new_vector : has e.mark l.tentative ≡ false → e.mark.hut < HUTS → vector_of (all_of (add_committed e l)) ≡ noted e.mark (vector_of (all_of l))
   new_vector new in-huts =
       sym (vector_more (all_of l) (all_of (add_committed e l)) e in-huts
       (λ h.

@@ -5,6 +5,7 @@ use Rattle.std.proofs.lemmas.Bool.{cases_Bool, cases_lt, le-leb, lt-leb}
 use Rattle.bookings.specs.Plain.{PlainEntry}
 use Rattle.entry_log.specs.Vectors.{vector_of}
 use Rattle.entry_log.specs.Waits.{PlainWaiting}
+use Rattle.entry_log.specs.declared.waiting.TheConstants.{MAX_LETTER_ENTRIES}
 use Rattle.replica.specs.Parcels.{missing, offered}
 
 -- what is there, with what is left of the missing ones
@@ -37,12 +38,12 @@ take_few ys n k is =
     ⊎_elim (λ short. take_all k ys (omega arith) ∙ sym (take_all n ys (omega arith))) (λ long. let same : k ≡ n = omega arith in ap (λ m. take m ys) same) (cases_lt (length ys) n)
 
 pub part_is :
-    {X : Type 0} (xs : List X) (from start count : ℕ) → start ≡ min from (length xs) → count ≡ min 1024 (length xs - start)
-    → take ((start + count) - start) (drop start xs) ≡ take 1024 (drop from xs)
+    {X : Type 0} (xs : List X) (from start count : ℕ) → start ≡ min from (length xs) → count ≡ min MAX_LETTER_ENTRIES (length xs - start)
+    → take ((start + count) - start) (drop start xs) ≡ take MAX_LETTER_ENTRIES (drop from xs)
 part_is xs from start count start_is count_is =
     let same : drop start xs ≡ drop from xs =
     ⊎_elim (λ past. drop_all start xs (omega arith) ∙ sym (drop_all from xs (omega arith))) (λ within. let at : start ≡ from = omega arith in ap (λ n. drop n xs) at) (cases_lt (length xs) from) in
-    take_few (drop start xs) 1024 ((start + count) - start) (omega (arith, length-drop start xs)) ∙ ap (take 1024) same
+    take_few (drop start xs) MAX_LETTER_ENTRIES ((start + count) - start) (omega (arith, length-drop start xs)) ∙ ap (take MAX_LETTER_ENTRIES) same
 
 -- the loop over the entries: its step and its end
 module _ (has : List ℕ) (room : ℕ) (before xs : List PlainEntry) (i : ℕ) where

@@ -3,6 +3,7 @@ use Rattle.std.proofs.Common.{◌≡◌, ℕ, ◌<◌, max, false, List, [], ◌
 use Rattle.std.proofs.lemmas.List.{append_assoc}
 use Rattle.std.proofs.lemmas.Bool.{ne_eqb, eq-eqb, cases_eq}
 use Rattle.bookings.specs.Plain.{PlainMark, PlainEntry}
+use Rattle.bookings.specs.declared.limits.TheConstants.{HUTS}
 use Rattle.entry_log.proofs.Stamps.{top-append, into_last, highest-append, vector_more}
 use Rattle.entry_log.specs.Logs.{PlainLog, all_of, has, top, add_tentative}
 use Rattle.entry_log.specs.Vectors.{vector_of, noted, highest}
@@ -21,7 +22,7 @@ made_last e l above =
 pub top-push : (es : List PlainEntry) (e : PlainEntry) → top (es ++ e ∷ []) ≡ max e.mark.stamp (top es)
 top-push es e = top-append es (e ∷ []) ∙ omega arith
 
-pub vector_push : (es : List PlainEntry) (e : PlainEntry) → e.mark.hut < 16 → vector_of (es ++ e ∷ []) ≡ noted e.mark (vector_of es)
+pub vector_push : (es : List PlainEntry) (e : PlainEntry) → e.mark.hut < HUTS → vector_of (es ++ e ∷ []) ≡ noted e.mark (vector_of es)
 vector_push es e in-huts =
     sym (vector_more es (es ++ e ∷ []) e in-huts (λ h. highest-append es (e ∷ []) h ∙ one-first h))
   where

@@ -7,6 +7,7 @@ use Rattle.entry_log.proofs.Marks.{behind_at}
 use Rattle.entry_log.proofs.Putting.{without_none, none_has, times-append, one_more, same_self}
 use Rattle.entry_log.specs.Logs.{PlainLog, all_of, without, first_entry, commit_first_of, add_committed}
 use Rattle.entry_log.specs.Order.{all_behind, ascends, times, Once}
+use Rattle.entry_log.specs.declared.waiting.TheConstants.{MAX_LETTER_ENTRIES}
 use Rattle.replica.proofs.Making.{made_last}
 use Rattle.replica.specs.Laws.{Sorted, MadeStandsLast, CommitKeepsOrder, ParcelIsSmall, ParcelHasNoGap}
 use Rattle.replica.specs.Model.{entry_made}
@@ -43,15 +44,15 @@ commit_keeps_order_lem s once = (commit_stays s.log s.log.tentative refl once, �
 pub parcel_is_small_lem : ParcelIsSmall
 unfolding parcel_of
 parcel_is_small_lem from has s =
-    omega (arith, length-take 1024 (drop from s.log.committed), length-take (1024 - length (take 1024 (drop from s.log.committed))) (missing has s.log.committed s.log.tentative))
+    omega (arith, length-take MAX_LETTER_ENTRIES (drop from s.log.committed), length-take (MAX_LETTER_ENTRIES - length (take MAX_LETTER_ENTRIES (drop from s.log.committed))) (missing has s.log.committed s.log.tentative))
 
 pub parcel_has_no_gap_lem : ParcelHasNoGap
 unfolding parcel_of
 parcel_has_no_gap_lem from has s =
     let cs = drop from s.log.committed in
     let ts = missing has s.log.committed s.log.tentative in
-    let room = 1024 - length (take 1024 cs) in (
-      (drop 1024 cs, sym (take-append-drop 1024 cs)),
+    let room = MAX_LETTER_ENTRIES - length (take MAX_LETTER_ENTRIES cs) in (
+      (drop MAX_LETTER_ENTRIES cs, sym (take-append-drop MAX_LETTER_ENTRIES cs)),
       (drop room ts, sym (take-append-drop room ts)),
-      λ some. take_all 1024 cs (omega (arith, length-take 1024 cs, length-take room ts)),
+      λ some. take_all MAX_LETTER_ENTRIES cs (omega (arith, length-take MAX_LETTER_ENTRIES cs, length-take room ts)),
     )

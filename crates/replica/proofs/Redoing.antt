@@ -1,5 +1,6 @@
 -- One entry fewer, and one more, of a list from its front.
 use Rattle.std.proofs.Common.{◌≡◌, ℕ, zero, suc, ◌+◌, ◌-◌, ◌<◌, ◌≤◌, List, [], ◌∷◌, length, get_or, take, Ok, Err, Result, sym, refl, ap, ◌∙◌, arith, MatchResult}
+use Rattle.bookings.specs.declared.book.TheConstants.{CAPACITY}
 use mathlib.Core.Logic.{∥∥₁_elim}
 use denote.Struct.Props.{props}
 use lib.ListN.{length-map}
@@ -52,8 +53,8 @@ undo_shorter b c reached some back =
     omega (arith, many, some, ap (λ (x : PlainBook). length x.marks) left, book-length (take (length es - 1) es), length-take-le (length es - 1) es (omega arith)))
 
 pub redo_front :
-    (r : Result (Unit {0}) Refusal) (es : List PlainEntry) (k : ℕ) (e : PlainEntry) (b c : PlainBook) → k < length es → length es ≤ 65536 → e ≡ get_or es k e → b ≡ book_of (take k es)
-    → MatchResult r (λ _. (length b.marks < 65536) × (c ≡ does e b)) (λ w. (number_of w ≡ 8) × (65536 ≤ length b.marks) × (c ≡ b)) → c ≡ book_of (take (k + 1) es)
+    (r : Result (Unit {0}) Refusal) (es : List PlainEntry) (k : ℕ) (e : PlainEntry) (b c : PlainBook) → k < length es → length es ≤ CAPACITY → e ≡ get_or es k e → b ≡ book_of (take k es)
+    → MatchResult r (λ _. (length b.marks < CAPACITY) × (c ≡ does e b)) (λ w. (number_of w ≡ 8) × (CAPACITY ≤ length b.marks) × (c ≡ b)) → c ≡ book_of (take (k + 1) es)
 redo_front (Ok u) es k e b c there room is done did =
     did.1 ∙ ap (does e) done ∙ ap (λ x. does x (book_of (take k es))) is ∙ sym (book_front es k e there)
 redo_front (Err w) es k e b c there room is done did =

@@ -1,5 +1,7 @@
 -- A book that is in step with a log, and stays so.
 use Rattle.std.proofs.Common.{◌≡◌, ℕ, ◌<◌, ◌≤◌, false, leb, List, [], ◌∷◌, ◌++◌, map, length, get_or, is_some, Some, None, Ok, Err, Option, Result, sym, refl, ap, ◌∙◌, ⊎_elim, arith, MatchResult}
+use Rattle.bookings.specs.declared.book.TheConstants.{CAPACITY}
+use Rattle.bookings.specs.declared.limits.TheConstants.{HUTS}
 use mathlib.Core.Logic.{∥∥₁_elim, ∥∥₁_map}
 use lib.ListN.{length-map}
 use Rattle.std.proofs.lemmas.Bool.{cases_Bool, leb-false}
@@ -27,13 +29,13 @@ step_length b es step = ap length (step_marks b es step) ∙ length-map es (λ e
 -- an entry that finds room is done, and stands last
 pub step_push :
     (r : Result (Unit {0}) Refusal) (b c : PlainBook) (e : PlainEntry) (es fs : List PlainEntry)
-    → MatchResult r (λ _. (length b.marks < 65536) × (c ≡ does e b)) (λ w. (number_of w ≡ 8) × (65536 ≤ length b.marks) × (c ≡ b)) → InStep b es → length es < 65536
+    → MatchResult r (λ _. (length b.marks < CAPACITY) × (c ≡ does e b)) (λ w. (number_of w ≡ 8) × (CAPACITY ≤ length b.marks) × (c ≡ b)) → InStep b es → length es < CAPACITY
     → fs ≡ es ++ e ∷ [] → InStep c fs
 step_push (Ok u) b c e es fs did step room is = ∥∥₁_map step (λ same. did.1 ∙ ap (does e) same ∙ sym (book-push es e) ∙ ap book_of (sym is))
 step_push (Err w) b c e es fs did step room is = absurd (omega (arith, did.1, step_length b es step))
 
 -- a stamp above all of its hut's stands nowhere
-pub unreached : (m : PlainMark) (es : List PlainEntry) → m.hut < 16 → leb m.stamp (get_or (vector_of es) m.hut 0) ≡ false → place_from 0 m (map (λ e. e.mark) es) ≡ None
+pub unreached : (m : PlainMark) (es : List PlainEntry) → m.hut < HUTS → leb m.stamp (get_or (vector_of es) m.hut 0) ≡ false → place_from 0 m (map (λ e. e.mark) es) ≡ None
 unreached m es in-huts above = nowhere (place_from 0 m (map (λ e. e.mark) es)) (has_found m 0 es ∙ new)
   where
     new : has m es ≡ false

@@ -1,5 +1,7 @@
 -- A log with another's tentative entry.
 use Rattle.std.proofs.Common.{◌≡◌, ℕ, ◌+◌, ◌<◌, ◌≤◌, max, List, ◌∷◌, ◌++◌, map, length, take, drop, vec_items, sym, ap, ◌∙◌, subst, arith, length-append}
+use Rattle.bookings.specs.declared.book.TheConstants.{CAPACITY}
+use Rattle.bookings.specs.declared.limits.TheConstants.{HUTS}
 use lib.ListN.{length-map}
 use Rattle.std.proofs.lemmas.List.Edits.{length-insert}
 use Rattle.std.proofs.lemmas.List.{append_assoc, take_at, take-append-drop, length-take-le}
@@ -60,7 +62,7 @@ module _ (e : PlainEntry) (l : PlainLog) where
   pub tentative-top : top (all_of (add_tentative e l)) ≡ max e.mark.stamp (top (all_of l))
   tentative-top = omega (arith, top-append l.committed (into e l.tentative), top-append l.committed l.tentative, top-into e l.tentative)
 
-  pub tentative_vector : e.mark.hut < 16 → vector_of (all_of (add_tentative e l)) ≡ noted e.mark (vector_of (all_of l))
+  pub tentative_vector : e.mark.hut < HUTS → vector_of (all_of (add_tentative e l)) ≡ noted e.mark (vector_of (all_of l))
   tentative_vector in-huts =
       sym (vector_more (all_of l) (all_of (add_tentative e l)) e in-huts
       (λ h. highest-append l.committed (into e l.tentative) h ∙ ap (max (highest l.committed h)) (highest-into e l.tentative h) ∙ first-or-last h))
@@ -72,6 +74,6 @@ module _ (e : PlainEntry) (l : PlainLog) where
 pub log_once : (l : Log) → Once (all_of (log_in l))
 log_once l = subst Once (sym (take-append-drop l.committed (map plain (vec_items l.entries)))) l.once
 
-pub log_few : (l : Log) → length (all_of (log_in l)) ≤ 65536
+pub log_few : (l : Log) → length (all_of (log_in l)) ≤ CAPACITY
 log_few l =
     omega (arith, ap length (take-append-drop l.committed (map plain (vec_items l.entries))), length-map (vec_items l.entries) plain, l.entries.ok.0, l.room.0)

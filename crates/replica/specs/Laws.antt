@@ -3,6 +3,7 @@ use Rattle.std.specs.Prelude.{◌≡◌, ℕ, ◌+◌, ◌<◌, ◌≤◌, true,
 use Rattle.bookings.specs.Plain.{PlainKind, PlainEntry}
 use Rattle.entry_log.specs.Logs.{all_of, first_entry}
 use Rattle.entry_log.specs.Order.{before, Once}
+use Rattle.entry_log.specs.declared.waiting.TheConstants.{MAX_LETTER_ENTRIES}
 use Rattle.replica.specs.Model.{State, made, entry_made, commits, with_committed}
 use Rattle.entry_log.specs.Waits.{PlainWaiting}
 use Rattle.replica.specs.Parcels.{missing, parcel_for}
@@ -21,9 +22,9 @@ CommitKeepsOrder =
     (s : State) → Once (all_of s.log)
     → (all_of (commits s).log ≡ all_of s.log) × ((e : PlainEntry) → first_entry s.log.tentative ≡ Some e → all_of (with_committed e s).log ≡ all_of s.log)
 
--- LAW: what is handed on is 1,024 entries at most.
+-- LAW: what is handed on is as many entries as a letter can have, at most.
 abbrev pub ParcelIsSmall : Type 0
-ParcelIsSmall = (from : ℕ) (has : List ℕ) (s : State) → length (parcel_for from has s).committed + length (parcel_for from has s).tentative ≤ 1024
+ParcelIsSmall = (from : ℕ) (has : List ℕ) (s : State) → length (parcel_for from has s).committed + length (parcel_for from has s).tentative ≤ MAX_LETTER_ENTRIES
 
 -- LAW: what is handed on has everything up to where it stops: the committed entries from the place on without a gap, and, only where these
 -- are all, of the tentative entries that are missing the first so many.

@@ -2,8 +2,10 @@
 use Rattle.std.specs.Prelude.{ℕ, ◌+◌, Bool, false, cond, not, ◌||◌, List, map, length, Some, None, Option, ◌==◌, nat_le}
 use Rattle.bookings.specs.Books.{named_by}
 use Rattle.bookings.specs.Plain.{PlainMark, PlainKind, PlainEntry}
+use Rattle.bookings.specs.declared.book.TheConstants.{CAPACITY}
 use Rattle.entry_log.specs.Logs.{PlainLog, empty_log, all_of, has, top, add_tentative, add_committed, commit_first}
 use Rattle.entry_log.specs.Vectors.{vector_of, covers, joined_with}
+use Rattle.replica.specs.declared.head.TheConstants.{LAST_STAMP}
 
 pub record State : Type 0 where
   pub hut : ℕ
@@ -17,10 +19,10 @@ marks_of s = map (λ e. e.mark) (all_of s.log)
 
 -- the limits: entries of a replica, and stamps, of which the last may not be used
 abbrev pub capacity : ℕ
-capacity = 65536
+capacity = CAPACITY
 
 abbrev pub last_stamp : ℕ
-last_stamp = 4294967295
+last_stamp = LAST_STAMP
 
 abbrev pub is_full : State → Bool
 is_full s = nat_le capacity (length (all_of s.log))

@@ -11,7 +11,7 @@ pub fn commit_keeps_order()
     ensures { CommitKeepsOrder }
 {}
 
-// What is handed on is 1,024 entries at most.
+// What is handed on is as many entries as a letter can have, at most.
 pub fn parcel_is_small()
     ensures { ParcelIsSmall }
 {}

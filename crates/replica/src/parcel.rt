@@ -1,5 +1,6 @@
 // What is handed on to another replica: room for all that one letter can hold, reserved once.
 ghost use Rattle.std.specs.Prelude.{◌≤◌, vec_capacity};
+ghost use Rattle.entry_log.specs.declared.waiting.TheConstants.{MAX_LETTER_ENTRIES};
 
 use bookings::entry::Entry;
 pub use entry_log::waiting::Waiting;
@@ -10,5 +11,5 @@ mod fills;
 pub struct Parcel {
     committed: Vec<Entry>,
     tentative: Vec<Waiting>,
-    ghost room: { (1024 ≤ vec_capacity committed) × (1024 ≤ vec_capacity tentative) },
+    ghost room: { (MAX_LETTER_ENTRIES ≤ vec_capacity committed) × (MAX_LETTER_ENTRIES ≤ vec_capacity tentative) },
 }

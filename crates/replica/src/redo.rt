@@ -4,6 +4,7 @@ ghost use Rattle.bookings.specs.Books.{book_of};
 ghost use Rattle.bookings.specs.Plain.{PlainEntry, plain};
 ghost use Rattle.bookings.specs.Ranges.{Each, InRange};
 ghost use Rattle.bookings.specs.Views.{book_in};
+ghost use Rattle.bookings.specs.declared.book.TheConstants.{CAPACITY};
 ghost use Rattle.replica.specs.Steps.{SharesFront};
 
 use bookings::book::Book;
@@ -21,7 +22,7 @@ fn undo_to(book: &mut Book, place: usize)
 // Does the entries of a log from a place on, up to which the book has them done.
 fn redo_from(book: &mut Book, log: &[Entry], place: usize)
     requires within { place ≤ length log.now }
-    requires room { length log.now ≤ 65536 }
+    requires room { length log.now ≤ CAPACITY }
     requires done { book_in book.old ≡ book_of (take place (map plain log.now)) }
     ensures { book_in book.new ≡ book_of (map plain log.now) }
 {
@@ -34,7 +35,7 @@ fn redo_from(book: &mut Book, log: &[Entry], place: usize)
 // Brings a book on to a log, of which it has the entries up to a place done, and then perhaps others.
 pub(crate) fn redo_log(book: &mut Book, log: &[Entry], place: usize)
     requires within { place ≤ length log.now }
-    requires room { length log.now ≤ 65536 }
+    requires room { length log.now ≤ CAPACITY }
     requires front { SharesFront place (book_in book.old) (map plain log.now) }
     ensures { book_in book.new ≡ book_of (map plain log.now) }
 {

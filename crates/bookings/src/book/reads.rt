@@ -9,7 +9,7 @@ ghost use Rattle.bookings.specs.Views.{book_in};
 
 use super::{Book, Night};
 use crate::entry::Mark;
-use crate::nights::NIGHTS;
+use crate::limits::{HUTS, NIGHTS};
 use crate::outcome::Outcome;
 use crate::refusal::Refusal;
 use crate::standing::place_of;
@@ -40,10 +40,10 @@ impl Book {
     // A hut's beds on a night.
     pub fn night(&self, hut: u64, night: u64) -> Result<Night, Refusal>
         ensures { MatchResult result
-            (λ n. (hut < 16) × (night < 366) × (n.beds ≡ slice_index (book_in self.now).beds (place_of hut night)) × (n.booked ≡ slice_index (book_in self.now).booked (place_of hut night)))
-            (λ e. (number_of e ≡ 2) × ((hut < 16) × (night < 366) → ⊥)) }
+            (λ n. (hut < HUTS) × (night < NIGHTS) × (n.beds ≡ slice_index (book_in self.now).beds (place_of hut night)) × (n.booked ≡ slice_index (book_in self.now).booked (place_of hut night)))
+            (λ e. (number_of e ≡ 2) × ((hut < HUTS) × (night < NIGHTS) → ⊥)) }
     {
-        if hut > 15 || night > 365 {
+        if hut >= HUTS as u64 || night >= NIGHTS as u64 {
             return Err(Refusal::OutOfRange);
         }
         // `as`, since no `From` goes from `u64` to `usize`; both are small by the test.

@@ -10,7 +10,7 @@ ghost use Rattle.bookings.specs.Views.{book_in};
 use super::{Book, CAPACITY};
 use crate::effects::carry_out;
 use crate::entry::Entry;
-use crate::nights::PLACES;
+use crate::limits::{INITIAL_BEDS, PLACES};
 use crate::refusal::Refusal;
 use crate::undo::take_back;
 use std::alloc::{AllocError, Global};
@@ -23,11 +23,11 @@ fn row_of(heap: Global, n: u32) -> Result<Vec<u32>, AllocError>
 }
 
 impl Book {
-    // The book of no entry: twenty beds in each hut on each night, none booked.
+    // The book of no entry: `INITIAL_BEDS` in each hut on each night, none booked.
     pub fn new(heap: Global) -> Result<Book, AllocError>
         ensures { IfOk result (λ b. book_in b ≡ empty_book) }
     {
-        let beds = row_of(heap, 20)?;
+        let beds = row_of(heap, INITIAL_BEDS)?;
         let booked = row_of(heap, 0)?;
         let marks = Vec::with_capacity(heap, CAPACITY)?;
         let outcomes = Vec::with_capacity(heap, CAPACITY)?;
@@ -39,11 +39,11 @@ impl Book {
         })
     }
 
-    // Does an entry; refused where the book has 65,536 entries.
+    // Does an entry; refused where the book has as many as it can.
     pub fn apply(&mut self, entry: &Entry) -> Result<(), Refusal>
         ensures { MatchResult result
-            (λ _. (length (book_in self.old).marks < 65536) × (book_in self.new ≡ does (plain «entry».now) (book_in self.old)))
-            (λ e. (number_of e ≡ 8) × (65536 ≤ length (book_in self.old).marks) × (book_in self.new ≡ book_in self.old)) }
+            (λ _. (length (book_in self.old).marks < CAPACITY) × (book_in self.new ≡ does (plain «entry».now) (book_in self.old)))
+            (λ e. (number_of e ≡ 8) × (CAPACITY ≤ length (book_in self.old).marks) × (book_in self.new ≡ book_in self.old)) }
     {
         if self.marks.len() >= CAPACITY {
             return Err(Refusal::Full);

@@ -1,5 +1,5 @@
 // Entries made of numbers from outside, which may be out of range.
-ghost use Rattle.std.specs.Prelude.{◌≡◌, ◌+◌, ◌<◌, ◌≤◌, [], ◌∷◌, ◌++◌, length, MatchResult};
+ghost use Rattle.std.specs.Prelude.{◌≡◌, ◌+◌, ◌^◌, ◌<◌, ◌≤◌, [], ◌∷◌, ◌++◌, length, MatchResult};
 ghost use Rattle.std.specs.Option.{option_map};
 ghost use Rattle.bookings.specs.Books.{same_mark, named_by};
 ghost use Rattle.bookings.specs.Plain.{plain_mark, plain_stay, plain_choice, plain_supply, plain_kind, listed};
@@ -7,6 +7,7 @@ ghost use Rattle.bookings.specs.Ranges.{MarkOk, StayOk, ChoiceOk, SupplyOk};
 ghost use Rattle.bookings.specs.Refusals.{number_of};
 
 use super::{Choice, Choices, Kind, Mark, Stay, Supply};
+use crate::limits::{HUTS, MAX_CHOICE_BEDS, MAX_CHOICES, MAX_STAY_NIGHTS, NIGHTS};
 use crate::refusal::Refusal;
 
 // `as u8` and `as u16` stand behind tests that are narrower than the types: nothing is lost, and `try_from` would bring an error that cannot come.
@@ -15,10 +16,10 @@ impl Mark {
     pub fn new(stamp: u64, hut: u64) -> Result<Mark, Refusal>
         ensures { MatchResult result
             (λ m. plain_mark m ≡ record { stamp = stamp; hut = hut })
-            (λ e. (number_of e ≡ 2) × ((stamp < 4294967296) × MarkOk (record { stamp = stamp; hut = hut }) → ⊥)) }
+            (λ e. (number_of e ≡ 2) × ((stamp < 2 ^ 32) × MarkOk (record { stamp = stamp; hut = hut }) → ⊥)) }
     {
         let stamp = u32::try_from(stamp).map_err(|_| Refusal::OutOfRange)?;
-        if stamp < 1 || hut > 15 {
+        if stamp < 1 || hut >= HUTS as u64 {
             return Err(Refusal::OutOfRange);
         }
         Ok(Mark {
@@ -53,7 +54,11 @@ impl Stay {
             (λ s. plain_stay s ≡ record { hut = hut; night = night; nights = nights })
             (λ e. (number_of e ≡ 2) × (StayOk (record { hut = hut; night = night; nights = nights }) → ⊥)) }
     {
-        if hut > 15 || nights < 1 || nights > 14 || night > 366 - nights {
+        if hut >= HUTS as u64
+            || nights < 1
+            || nights > MAX_STAY_NIGHTS as u64
+            || night > NIGHTS as u64 - nights
+        {
             return Err(Refusal::OutOfRange);
         }
         Ok(Stay {
@@ -70,7 +75,7 @@ impl Choice {
             (λ c. plain_choice c ≡ record { stay = plain_stay stay; beds = beds })
             (λ e. (number_of e ≡ 2) × (ChoiceOk (record { stay = plain_stay stay; beds = beds }) → ⊥)) }
     {
-        if beds < 1 || beds > 20 {
+        if beds < 1 || beds > MAX_CHOICE_BEDS as u64 {
             return Err(Refusal::OutOfRange);
         }
         Ok(Choice {
@@ -102,7 +107,7 @@ impl Choices {
         };
         Choices {
             count: 0,
-            all: [Choice { stay, beds: 1 }; 4],
+            all: [Choice { stay, beds: 1 }; MAX_CHOICES],
         }
     }
 
@@ -110,9 +115,9 @@ impl Choices {
     pub fn with(mut self, choice: Choice) -> Result<Choices, Refusal>
         ensures { MatchResult result
             (λ cs. listed cs ≡ listed self ++ choice ∷ [])
-            (λ e. (number_of e ≡ 2) × (length (listed self) ≡ 4)) }
+            (λ e. (number_of e ≡ 2) × (length (listed self) ≡ MAX_CHOICES)) }
     {
-        if self.count >= 4 {
+        if usize::from(self.count) >= MAX_CHOICES {
             return Err(Refusal::OutOfRange);
         }
         self.all[usize::from(self.count)] = choice;

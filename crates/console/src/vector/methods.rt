@@ -1,5 +1,6 @@
 // Vectors of a line's numbers, and which of them are in range.
 ghost use Rattle.std.specs.Prelude.{◌≡◌, length, MatchOption, MatchResult, ◌≢◌};
+ghost use Rattle.bookings.specs.declared.limits.TheConstants.{HUTS};
 ghost use Rattle.console.specs.Checks.{StampsFit, OutOfRange};
 
 use super::RawVector;
@@ -7,9 +8,9 @@ use bookings::refusal::Refusal;
 use entry_log::vector::Vector;
 
 impl RawVector {
-    // Sixteen numbers.
+    // A number for each hut.
     pub(crate) fn read(numbers: &[u64]) -> Option<RawVector>
-        ensures { MatchOption result (length numbers.now ≢ 16) (λ v. (length numbers.now ≡ 16) × (v.all ≡ numbers.now)) }
+        ensures { MatchOption result (length numbers.now ≢ HUTS) (λ v. (length numbers.now ≡ HUTS) × (v.all ≡ numbers.now)) }
     {
         let all = numbers.try_into().ok()?;
         Some(RawVector { all })

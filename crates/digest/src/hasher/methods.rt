@@ -4,6 +4,7 @@ ghost use Rattle.digest.specs.Sha256.{digest_of};
 ghost use Rattle.digest.specs.Fed.{Fed};
 
 use super::Hasher;
+use crate::DIGEST_BYTES;
 use crate::blocks::{Tail, absorb};
 use crate::constants::INITIAL;
 use crate::rounds::compress;
@@ -60,7 +61,7 @@ impl Hasher {
     }
 
     // The digest of the message.
-    pub fn finish(self) -> [u8; 32]
+    pub fn finish(self) -> [u8; DIGEST_BYTES]
         ensures { (m : List ℕ) → Fed self m → result ≡ digest_of m }
     {
         let Hasher {

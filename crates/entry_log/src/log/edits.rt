@@ -43,7 +43,7 @@ impl Log {
     // Puts a tentative entry where it belongs, and says at which place that is.
     pub fn insert(&mut self, entry: Entry) -> usize
         requires new { has (plain «entry»).mark (all_of (log_in self.old)) ≡ false }
-        requires room { length (all_of (log_in self.old)) < 65536 }
+        requires room { length (all_of (log_in self.old)) < CAPACITY }
         ensures log { log_in self.new ≡ add_tentative (plain «entry») (log_in self.old) }
         ensures place { result ≡ length (log_in self.old).committed + spot (plain «entry»).mark (log_in self.old).tentative }
     {
@@ -78,7 +78,7 @@ impl Log {
     // Puts an entry that is not known to the end of the committed ones.
     fn settle_new(&mut self, entry: Entry)
         requires new { has (plain «entry»).mark (all_of (log_in self.old)) ≡ false }
-        requires room { length (all_of (log_in self.old)) < 65536 }
+        requires room { length (all_of (log_in self.old)) < CAPACITY }
         ensures { log_in self.new ≡ add_committed (plain «entry») (log_in self.old) }
     {
         insert_at(&mut self.entries, self.committed, entry);
@@ -98,7 +98,7 @@ impl Log {
     // Puts an entry to the end of the committed ones, and takes it from the tentative ones, if it is there.
     pub fn settle(&mut self, entry: Entry)
         requires new { has (plain «entry»).mark (log_in self.old).committed ≡ false }
-        requires room { has (plain «entry»).mark (log_in self.old).tentative ≡ false → length (all_of (log_in self.old)) < 65536 }
+        requires room { has (plain «entry»).mark (log_in self.old).tentative ≡ false → length (all_of (log_in self.old)) < CAPACITY }
         ensures { log_in self.new ≡ add_committed (plain «entry») (log_in self.old) }
     {
         match self.find_tentative(&entry.mark) {

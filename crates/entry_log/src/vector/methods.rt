@@ -5,13 +5,14 @@ ghost use Rattle.entry_log.specs.Vectors.{no_stamps, noted, covers, joined_with}
 
 use super::Vector;
 use bookings::entry::Mark;
+use bookings::limits::HUTS;
 use std::array;
 
 impl Vector {
     pub fn zero() -> Vector
         ensures { result.stamps ≡ no_stamps }
     {
-        Vector { stamps: [0; 16] }
+        Vector { stamps: [0; HUTS] }
     }
 
     // Whether a mark's stamp is at most the one of its hut.

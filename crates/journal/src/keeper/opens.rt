@@ -1,6 +1,7 @@
 // A replica is opened over its journal.
 ghost use Rattle.std.specs.Prelude.{◌≡◌, ℕ, ◌-◌, ◌<◌, ◌≤◌, Bool, true, false, length, MatchResult};
 ghost use Rattle.bookings.specs.Refusals.{number_of};
+ghost use Rattle.bookings.specs.declared.limits.TheConstants.{HUTS};
 ghost use Rattle.journal.specs.Finding.{FoundOf};
 ghost use Rattle.journal.specs.History.{Kept, history_of, opened, synced, crashed};
 ghost use Rattle.journal.specs.Keeping.{InStep};
@@ -10,24 +11,22 @@ ghost use Rattle.journal.specs.declared.opened.NotOpened.TheVariants.{Memory, Re
 
 use super::Keeper;
 use crate::appender::Appender;
+use crate::limits::RECORD_ROOM;
 use crate::medium::Medium;
 use crate::open::replay_all;
 use crate::opened::{NotOpened, Opened};
 use replica::replica::Replica;
 use std::alloc::Global;
 
-// No record takes more bytes than this.
-pub const RECORD_ROOM: usize = 33;
-
 impl<M: Medium + Drop> Keeper<Appender<M>> {
     // Opens the journal of a hut on a medium, on which these bytes were found. It is cut back to where the last record ends that is whole, in range
     // and can stand, and all of it is synced then.
     pub fn open(heap: Global, hut: u8, medium: M, found: &[u8]) -> Result<Opened<M>, NotOpened>
         ensures kept { MatchResult result
-            (λ o. (hut < 16) × (o.cut ≡ length found.now - length (bytes_of (history_in hut found.now)))
+            (λ o. (hut < HUTS) × (o.cut ≡ length found.now - length (bytes_of (history_in hut found.now)))
             × ((n : ℕ) → n ≤ length (bytes_of (history_in hut found.now)) → M.Medium.holds medium found.now n
             → InStep (λ j bs m. (is_shut j.phase ≡ false) × M.Medium.holds j.medium bs m × (is_synced j.phase ≡ true → m ≡ length bs)) o.keeper (opened hut (history_in hut found.now))))
-            (λ e. elim e [ Memory ↦ Unit {0} | Refused w ↦ (number_of w ≡ 2) × (16 ≤ hut) | Failed f ↦ Unit {0} ]) }
+            (λ e. elim e [ Memory ↦ Unit {0} | Refused w ↦ (number_of w ≡ 2) × (HUTS ≤ hut) | Failed f ↦ Unit {0} ]) }
         ensures stopped { (k : Kept) → k.hut ≡ hut → Stands hut (history_of k) → FoundOf k found.now → M.Medium.holds medium found.now (length (bytes_of k.durable)) → MatchResult result
             (λ o. (lost : ℕ) × InStep (λ j bs m. (is_shut j.phase ≡ false) × M.Medium.holds j.medium bs m × (is_synced j.phase ≡ true → m ≡ length bs)) o.keeper (synced (crashed lost k)))
             (λ _. Unit {0}) }

@@ -8,6 +8,7 @@ ghost use Rattle.letters.specs.Laws.{EntryOk, WaitingOk};
 ghost use Rattle.letters.specs.Letters.{encode_waiting, read_waiting};
 
 use super::{Coded, Decoded};
+use crate::limits::VECTOR_BYTES;
 use crate::reader::Reader;
 use crate::writer::{entry_size, put, put_all, put_choice, write_entry};
 use crate::wrong::Wrong;
@@ -107,7 +108,7 @@ impl Coded for Waiting {
     }
 
     fn size(&self) -> usize {
-        entry_size(&self.entry) + 64
+        entry_size(&self.entry) + VECTOR_BYTES
     }
 }
 

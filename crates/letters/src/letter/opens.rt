@@ -5,12 +5,14 @@ ghost use Rattle.letters.specs.Items.{unread, heard_of, heard_on};
 ghost use Rattle.letters.specs.Letters.{damaged, read_body, read_letter};
 ghost use Rattle.letters.specs.Rows.{read_row, end_of, through, halted, cut, front};
 
-use super::{LETTER, Letter, Unread};
+use super::{Letter, Unread};
 use crate::coded::Decoded;
+use crate::limits::EMPTY_LETTER_BYTES;
 use crate::reader::Reader;
 use bookings::entry::Entry;
 use bookings::refusal::Refusal;
-use entry_log::waiting::Waiting;
+use digest::DIGEST_BYTES;
+use entry_log::waiting::{MAX_LETTER_ENTRIES, Waiting};
 
 impl<'a> Unread<'a> {
     // So many values, in their part of the letter.
@@ -45,11 +47,13 @@ impl<'a> Letter<'a> {
             (λ l. read_letter bytes.now ≡ heard_of l)
             (λ e. (number_of e ≡ 1) × (read_letter bytes.now ≡ damaged)) }
     {
-        let (signed, sum) = bytes.split_last_chunk::<32>().ok_or(Refusal::Damaged)?;
+        let (signed, sum) = bytes
+            .split_last_chunk::<DIGEST_BYTES>()
+            .ok_or(Refusal::Damaged)?;
         let [66, body @ ..] = signed else {
             return Err(Refusal::Damaged);
         };
-        if bytes.len() < 41 || digest::sha256(signed) != *sum {
+        if bytes.len() < EMPTY_LETTER_BYTES || digest::sha256(signed) != *sum {
             return Err(Refusal::Damaged);
         }
         Letter::look(Reader::new(body))
@@ -63,7 +67,7 @@ impl<'a> Letter<'a> {
     {
         let count = reader.two().map_err(|_| Refusal::Damaged)?;
         let place = reader.four().map_err(|_| Refusal::Damaged)?;
-        if count > LETTER {
+        if usize::from(count) > MAX_LETTER_ENTRIES {
             return Err(Refusal::Damaged);
         }
         let (committed, out) = Unread::look::<Entry>(&mut reader, count)?;
@@ -86,7 +90,7 @@ impl<'a> Letter<'a> {
             (λ e. (number_of e ≡ 1) × (heard_on self.entry reader.entry.rest.now ≡ damaged)) }
     {
         let count = reader.two().map_err(|_| Refusal::Damaged)?;
-        if u32::from(self.committed.count) + u32::from(count) > u32::from(LETTER) {
+        if usize::from(self.committed.count) + usize::from(count) > MAX_LETTER_ENTRIES {
             return Err(Refusal::Damaged);
         }
         let (tentative, out) = Unread::look::<Waiting>(&mut reader, count)?;

@@ -11,6 +11,7 @@ ghost use Rattle.letters.specs.RangeTests.{choice_in_range, choices_in_range, ki
 use super::Reader;
 use crate::wrong::Wrong;
 use bookings::entry::{Choice, Choices, Entry, Kind};
+use bookings::limits::MAX_CHOICES;
 
 // `book`, `cancel`, `change` and `beds` each read the parts of their kind and make that kind: over one function each part would be named twice.
 impl<'a> Reader<'a> {
@@ -36,7 +37,7 @@ impl<'a> Reader<'a> {
             (λ e. judged choices_in_range (read_choices self.old.rest.now) ≡ wrong e) }
     {
         let count = self.one()?;
-        if count > 4 {
+        if usize::from(count) > MAX_CHOICES {
             return Err(Wrong::Out);
         }
         let mut all = Choices::none().all;

@@ -9,6 +9,7 @@ ghost use Rattle.letters.specs.Rows.{OwnRow, read_row, end_of, through, halted, 
 use super::Reader;
 use crate::coded::Decoded;
 use crate::wrong::Wrong;
+use bookings::limits::HUTS;
 use bookings::refusal::Refusal;
 use entry_log::vector::Vector;
 use entry_log::waiting::Waiting;
@@ -26,13 +27,13 @@ impl<'a> Reader<'a> {
         Ok(())
     }
 
-    // Sixteen stamps.
-    fn stamps(&mut self) -> Result<[u32; 16], Wrong>
+    // A stamp for each hut.
+    fn stamps(&mut self) -> Result<[u32; HUTS], Wrong>
         ensures { MatchResult result
             (λ v. read_stamps self.old.rest.now ≡ got v self.new.rest.now)
             (λ e. read_stamps self.old.rest.now ≡ wrong e) }
     {
-        let mut all = [0; 16];
+        let mut all = [0; HUTS];
         self.fill(&mut all)?;
         Ok(all)
     }

@@ -8,27 +8,24 @@ ghost use Rattle.letters.specs.Buffers.{Room, Written};
 ghost use Rattle.letters.specs.Format.{encode, four};
 ghost use Rattle.letters.specs.Laws.{EntryOk, WaitingOk, LetterOk};
 ghost use Rattle.letters.specs.Letters.{encode_waiting, encode_body, encode_letter};
+ghost use Rattle.letters.specs.declared.limits.TheConstants.{LETTER_ROOM};
 ghost use Rattle.letters.specs.declared.unwritten.Unwritten.TheVariants.{TooMany, NoRoom};
 ghost use Rattle.letters.specs.Sent.{many, plain_letter, letter_of};
 
 use super::lengths::letter_length;
 use super::{put, put_all};
-use crate::letter::LETTER;
 use crate::unwritten::Unwritten;
 use bookings::entry::Entry;
-use entry_log::waiting::Waiting;
-
-// A buffer with room for so many bytes has room for every letter: 1,024 entries of the longest kind.
-pub const LETTER_ROOM: usize = 98345;
+use entry_log::waiting::{MAX_LETTER_ENTRIES, Waiting};
 
 // The letter's bytes before its digest.
 fn put_body(out: &mut Vec<u8>, place: u32, committed: &[Entry], tentative: &[Waiting])
-    requires few { many committed.now tentative.now ≤ 1024 }
+    requires few { many committed.now tentative.now ≤ MAX_LETTER_ENTRIES }
     requires room { Room out.old (66 ∷ encode_body (plain_letter place committed.now tentative.now)) }
     ensures written { Written out.old out.new (66 ∷ encode_body (plain_letter place committed.now tentative.now)) }
     ensures fits { LetterOk (plain_letter place committed.now tentative.now) }
 {
-    // There are at most 1,024 of each, so that `as` loses nothing, which the check proves.
+    // There are at most `MAX_LETTER_ENTRIES` of each, so that `as` loses nothing, which the check proves.
     let [high, low] = (committed.len() as u16).to_be_bytes();
     let [a, b, c, d] = place.to_be_bytes();
     put(out, &[66, high, low, a, b, c, d]);
@@ -56,15 +53,16 @@ pub fn write_letter(
         (λ _. out.new ≡ out.old) }
     ensures lawful { OnOk result (LetterOk (letter_of place committed.now tentative.now)) }
     ensures refused { MatchResult result
-        (λ _. many committed.now tentative.now ≤ 1024)
+        (λ _. many committed.now tentative.now ≤ MAX_LETTER_ENTRIES)
         (λ e. elim e [
-          | TooMany ↦ 1024 < many committed.now tentative.now
-          | NoRoom ↦ (many committed.now tentative.now ≤ 1024) × (Room out.old (encode_letter (letter_of place committed.now tentative.now)) → ⊥)
+          | TooMany ↦ MAX_LETTER_ENTRIES < many committed.now tentative.now
+          | NoRoom ↦ (many committed.now tentative.now ≤ MAX_LETTER_ENTRIES) × (Room out.old (encode_letter (letter_of place committed.now tentative.now)) → ⊥)
         ]) }
-    ensures enough { vec_len out.old + 98345 ≤ vec_capacity out.old → many committed.now tentative.now ≤ 1024 → is_ok result ≡ true }
+    ensures enough { vec_len out.old + LETTER_ROOM ≤ vec_capacity out.old → many committed.now tentative.now ≤ MAX_LETTER_ENTRIES → is_ok result ≡ true }
 {
-    let most = usize::from(LETTER);
-    if committed.len() > most || tentative.len() > most - committed.len() {
+    if committed.len() > MAX_LETTER_ENTRIES
+        || tentative.len() > MAX_LETTER_ENTRIES - committed.len()
+    {
         return Err(Unwritten::TooMany);
     }
     let start = out.len();

@@ -11,6 +11,7 @@ ghost use Rattle.network.specs.Stands.{Stands};
 use super::Rehearsal;
 use crate::report::Report;
 use crate::stage::Stage;
+use bookings::limits::{HUTS, MAX_REHEARSAL_HUTS};
 use bookings::refusal::Refusal;
 use journal::appender::Appender;
 use journal::keeper::Keeper;
@@ -19,9 +20,6 @@ use journal::opened::NotOpened;
 use letters::writer::LETTER_ROOM;
 use replica::parcel::Parcel;
 use std::alloc::Global;
-
-// How many huts a rehearsal can have.
-const LIMIT: usize = 4;
 
 // The place of a hut's replica.
 pub(crate) fn place_of(keepers: &[Keeper<Appender<Memory>>], hut: u64) -> Option<usize>
@@ -39,17 +37,17 @@ fn join(
     hut: u64,
 ) -> Result<Keeper<Appender<Memory>>, NotOpened>
     ensures { MatchResult result
-        (λ q. (hut < 16) × Absent hut keepers.now × InStep InMemory q (empty hut) × (most_bytes < vec_capacity q.journal.medium.held))
-        (λ e. elim e [ NoMemory ↦ Unit {0} | Refused w ↦ (number_of w ≡ 2) × ((hut < 16) × Absent hut keepers.now → ⊥) | Failed f ↦ ⊥ ]) }
+        (λ q. (hut < HUTS) × Absent hut keepers.now × InStep InMemory q (empty hut) × (most_bytes < vec_capacity q.journal.medium.held))
+        (λ e. elim e [ NoMemory ↦ Unit {0} | Refused w ↦ (number_of w ≡ 2) × ((hut < HUTS) × Absent hut keepers.now → ⊥) | Failed f ↦ ⊥ ]) }
 {
-    if hut > 15 {
+    if hut >= HUTS as u64 {
         return Err(NotOpened::Refused(Refusal::OutOfRange));
     }
     if place_of(keepers, hut).is_some() {
         return Err(NotOpened::Refused(Refusal::OutOfRange));
     }
     let memory = Memory::new(heap, JOURNAL_ROOM)?;
-    // Less than 16: `try_from` would add an error that cannot come.
+    // Less than `HUTS`: `try_from` would add an error that cannot come.
     Ok(Keeper::open(heap, hut as u8, memory, &[])?.keeper)
 }
 
@@ -60,10 +58,10 @@ impl Rehearsal {
             (λ r. CastOk huts.now × Opens huts.now (huts_of r.stage) × Stands r.stage [] × (r.forged ≡ false))
             (λ e. elim e [ NoMemory ↦ Unit {0} | Refused w ↦ (number_of w ≡ 2) × (CastOk huts.now → ⊥) | Failed f ↦ ⊥ ]) }
     {
-        if huts.is_empty() || huts.len() > LIMIT {
+        if huts.is_empty() || huts.len() > MAX_REHEARSAL_HUTS {
             return Err(NotOpened::Refused(Refusal::OutOfRange));
         }
-        let mut keepers = Vec::with_capacity(heap, LIMIT)?;
+        let mut keepers = Vec::with_capacity(heap, MAX_REHEARSAL_HUTS)?;
         for hut in huts {
             let keeper = join(heap, keepers.as_slice(), *hut)?;
             keepers.push_reserved(keeper);

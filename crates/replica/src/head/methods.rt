@@ -4,16 +4,17 @@ ghost use Rattle.bookings.specs.Plain.{plain_mark};
 ghost use Rattle.bookings.specs.Refusals.{number_of};
 ghost use Rattle.entry_log.specs.Vectors.{no_stamps, noted};
 
-use super::Head;
+use super::{Head, LAST_STAMP};
 use bookings::book::CAPACITY;
 use bookings::entry::Mark;
+use bookings::limits::HUTS;
 use bookings::refusal::Refusal;
 use entry_log::vector::Vector;
 
 impl Head {
     // The head of a replica that has no entry.
     pub(crate) fn empty(hut: u8) -> Head
-        requires { hut < 16 }
+        requires { hut < HUTS }
         ensures hut { result.hut ≡ hut }
         ensures entries { result.entries ≡ 0 }
         ensures top { result.top ≡ 0 }
@@ -27,13 +28,13 @@ impl Head {
         }
     }
 
-    // The same of a number that may be none of the sixteen: then 2.
+    // The same of a number that may be no hut's: then 2.
     pub fn new(hut: u8) -> Result<Head, Refusal>
         ensures { MatchResult result
             (λ h. (h.hut ≡ hut) × (h.entries ≡ 0) × (h.top ≡ 0) × (h.seen.stamps ≡ no_stamps))
-            (λ e. (number_of e ≡ 2) × (16 ≤ hut)) }
+            (λ e. (number_of e ≡ 2) × (HUTS ≤ hut)) }
     {
-        if hut > 15 {
+        if usize::from(hut) >= HUTS {
             return Err(Refusal::OutOfRange);
         }
         Ok(Head::empty(hut))
@@ -41,7 +42,7 @@ impl Head {
 
     // The head with the entry of a mark more.
     pub fn with(self, mark: &Mark) -> Head
-        requires { self.entries < 65536 }
+        requires { self.entries < CAPACITY }
         ensures hut { result.hut ≡ self.hut }
         ensures entries { result.entries ≡ self.entries + 1 }
         ensures top { result.top ≡ max mark.now.stamp self.top }
@@ -60,10 +61,10 @@ impl Head {
     // The mark of the next entry of its own, one stamp above the highest.
     pub fn next_mark(self) -> Result<Mark, Refusal>
         ensures { MatchResult result
-            (λ m. ((nat_le 65536 self.entries || nat_le 4294967295 (self.top + 1)) ≡ false) × (plain_mark m ≡ record { stamp = self.top + 1; hut = self.hut }))
-            (λ e. ((nat_le 65536 self.entries || nat_le 4294967295 (self.top + 1)) ≡ true) × (number_of e ≡ 8)) }
+            (λ m. ((nat_le CAPACITY self.entries || nat_le LAST_STAMP (self.top + 1)) ≡ false) × (plain_mark m ≡ record { stamp = self.top + 1; hut = self.hut }))
+            (λ e. ((nat_le CAPACITY self.entries || nat_le LAST_STAMP (self.top + 1)) ≡ true) × (number_of e ≡ 8)) }
     {
-        if self.entries >= CAPACITY || self.top >= 4294967294 {
+        if self.entries >= CAPACITY || self.top >= LAST_STAMP - 1 {
             return Err(Refusal::Full);
         }
         Ok(Mark {

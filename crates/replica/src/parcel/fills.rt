@@ -9,11 +9,8 @@ ghost use Rattle.replica.specs.Waits.{parcel_in};
 use super::Parcel;
 use bookings::entry::Entry;
 use entry_log::vector::Vector;
-use entry_log::waiting::Waiting;
+use entry_log::waiting::{MAX_LETTER_ENTRIES, Waiting};
 use std::alloc::{AllocError, Global};
-
-// No parcel has more entries than this.
-pub const PARCEL: usize = 1024;
 
 // The vector of some entries.
 fn vector_of(entries: &[Entry]) -> Vector
@@ -29,12 +26,12 @@ fn vector_of(entries: &[Entry]) -> Vector
 // The committed entries from a place on, as many as a parcel holds.
 fn gather_committed(entries: &[Entry], from: usize, out: &mut Vec<Entry>)
     requires empty { out.old.items ≡ [] }
-    requires room { 1024 ≤ vec_capacity out.old }
-    ensures items { out.new.items ≡ take 1024 (drop from entries.now) }
+    requires room { MAX_LETTER_ENTRIES ≤ vec_capacity out.old }
+    ensures items { out.new.items ≡ take MAX_LETTER_ENTRIES (drop from entries.now) }
     ensures capacity { vec_capacity out.old ≤ vec_capacity out.new }
 {
     let start = from.min(entries.len());
-    let end = start + PARCEL.min(entries.len() - start);
+    let end = start + MAX_LETTER_ENTRIES.min(entries.len() - start);
     // There is room for a parcel's entries, so no memory is asked for.
     let _ = out.extend_from_slice(&entries[start..end]);
 }
@@ -81,8 +78,8 @@ impl Parcel {
     pub fn new(heap: Global) -> Result<Parcel, AllocError>
         ensures { IfOk result (λ p. parcel_in p ≡ record { committed = []; tentative = [] }) }
     {
-        let committed = Vec::with_capacity(heap, PARCEL)?;
-        let tentative = Vec::with_capacity(heap, PARCEL)?;
+        let committed = Vec::with_capacity(heap, MAX_LETTER_ENTRIES)?;
+        let tentative = Vec::with_capacity(heap, MAX_LETTER_ENTRIES)?;
         Ok(Parcel {
             committed,
             tentative,
@@ -96,7 +93,7 @@ impl Parcel {
         self.committed.clear();
         self.tentative.clear();
         gather_committed(committed, from, &mut self.committed);
-        let room = PARCEL - self.committed.len();
+        let room = MAX_LETTER_ENTRIES - self.committed.len();
         gather_tentative(committed, tentative, has, room, &mut self.tentative);
     }
 

@@ -3,6 +3,7 @@ ghost use Rattle.std.specs.Prelude.{◌≡◌, ◌<◌, ◌≤◌, Bool, true, f
 ghost use Rattle.bookings.specs.Books.{named_by};
 ghost use Rattle.bookings.specs.Plain.{plain_mark, plain_kind};
 ghost use Rattle.bookings.specs.Refusals.{number_of};
+ghost use Rattle.bookings.specs.declared.limits.TheConstants.{HUTS};
 ghost use Rattle.replica.specs.Model.{fresh, made, next_mark, make_refusal, names_unknown};
 ghost use Rattle.replica.specs.Views.{state_of};
 ghost use Rattle.replica.specs.declared.fault.Fault.TheVariants.{Memory, Refused};
@@ -17,10 +18,10 @@ use entry_log::log::Log;
 use std::alloc::Global;
 
 impl Replica {
-    // A replica that has no entry, with room for all that it can ever have; its number is one of the sixteen, else 2.
+    // A replica that has no entry, with room for all that it can ever have; its number is a hut's, else 2.
     pub fn new(heap: Global, hut: u8) -> Result<Replica, Fault>
-        ensures { MatchResult result (λ p. (hut < 16) × (state_of p ≡ fresh hut))
-            (λ e. elim e [ Memory ↦ Unit {0} | Refused w ↦ (number_of w ≡ 2) × (16 ≤ hut) ]) }
+        ensures { MatchResult result (λ p. (hut < HUTS) × (state_of p ≡ fresh hut))
+            (λ e. elim e [ Memory ↦ Unit {0} | Refused w ↦ (number_of w ≡ 2) × (HUTS ≤ hut) ]) }
     {
         let head = Head::new(hut)?;
         let log = Log::new(heap)?;

@@ -5,6 +5,7 @@ ghost use Rattle.bookings.specs.Nights.{place_of};
 ghost use Rattle.bookings.specs.Outcomes.{nothing, plain_outcome};
 ghost use Rattle.bookings.specs.Plain.{plain, plain_mark};
 ghost use Rattle.bookings.specs.Refusals.{number_of};
+ghost use Rattle.bookings.specs.declared.limits.TheConstants.{HUTS, NIGHTS};
 ghost use Rattle.entry_log.specs.Logs.{all_of};
 ghost use Rattle.entry_log.specs.Vectors.{vector_of};
 ghost use Rattle.entry_log.specs.Order.{Once};
@@ -53,10 +54,10 @@ impl Replica {
     // A hut's beds on a night, in the book that the log makes.
     pub fn night(&self, hut: u64, night: u64) -> Result<Night, Refusal>
         ensures { MatchResult result
-            (λ n. (hut < 16) × (night < 366)
+            (λ n. (hut < HUTS) × (night < NIGHTS)
             × (n.beds ≡ slice_index (book_of (all_of (state_of self.now).log)).beds (place_of hut night))
             × (n.booked ≡ slice_index (book_of (all_of (state_of self.now).log)).booked (place_of hut night)))
-            (λ e. (number_of e ≡ 2) × ((hut < 16) × (night < 366) → ⊥)) }
+            (λ e. (number_of e ≡ 2) × ((hut < HUTS) × (night < NIGHTS) → ⊥)) }
     {
         self.book.night(hut, night)
     }

@@ -8,6 +8,7 @@ ghost use Rattle.replica.specs.Model.{commits, is_primary, with_tentative, with_
 ghost use Rattle.replica.specs.Views.{state_of};
 
 use super::Replica;
+use crate::head::LAST_STAMP;
 use crate::redo::redo_log;
 use bookings::book::CAPACITY;
 use bookings::entry::{Entry, Mark};
@@ -38,7 +39,7 @@ impl Replica {
     fn has_no_room(&self, stamp: u32) -> bool
         ensures { result ≡ no_room (state_of self.now) stamp }
     {
-        self.head.entries >= CAPACITY || stamp >= 4294967295
+        self.head.entries >= CAPACITY || stamp >= LAST_STAMP
     }
 
     // Takes another's tentative entry, with what stood before it: refused where it is known (3), where what stood before is not (5), and where there is no room (8).
@@ -76,7 +77,7 @@ impl Replica {
     // Puts an entry that is not known to the end of the committed ones.
     fn settle_new(&mut self, entry: Entry)
         requires new { has (plain «entry»).mark (all_of (state_of self.old).log) ≡ false }
-        requires room { length (all_of (state_of self.old).log) < 65536 }
+        requires room { length (all_of (state_of self.old).log) < CAPACITY }
         ensures { state_of self.new ≡ with_committed (plain «entry») (state_of self.old) }
     {
         let place = self.log.committed();

@@ -1,4 +1,6 @@
 use Rattle.std.proofs.Common.{◌≡◌, ◌≤◌, false, is_ok, length, refl, rules, sym, ap, ◌∙◌, subst, arith, length-append, Result, Ok, Err, MatchResult}
+use Rattle.bookings.specs.declared.book.TheConstants.{CAPACITY}
+use Rattle.entry_log.specs.declared.waiting.TheConstants.{MAX_LETTER_ENTRIES}
 use lib.ListN.{length-map}
 use Rattle.std.proofs.lemmas.Option.{MatchOption-at_some}
 use Rattle.std.specs.Result.{IsErrAnd, OnOk}
@@ -48,7 +50,7 @@ module _ (g : Over) (c : After-write_letter g) where
   packed : ◌≡◌ {A = PlainParcel} (parcel_for c.args.has.now.committed c.args.has.now.vector.stamps (state_of c.in_ok-replica.replica.now)) (parcel_for c.args.has.now.committed c.args.has.now.vector.stamps was)
   packed = ap (parcel_for c.args.has.now.committed c.args.has.now.vector.stamps) (ap state_of ((MatchOption-at_some _ _ _ c.in_ok-replica.ensures.ok_part c.shown.ensures).0 ∙ c.in_ok-sync.ensures.replica))
 
-  few : length was.log.committed ≤ 65536
+  few : length was.log.committed ≤ CAPACITY
   few = omega (arith, log_few c.args.keeper.now.replica.log, length-append was.log.committed was.log.tentative)
 
   letter : letter_of c.place_from-place.result c.committed.result.now c.tentative.result.now ≡ letter_for c.args.has.now.committed c.args.has.now.vector.stamps was
@@ -58,7 +60,7 @@ module _ (g : Over) (c : After-write_letter g) where
       (c.tentative.ensures ∙ ap (λ (p : PlainParcel). p.tentative) (c.hand_on.ensures ∙ packed))
 
   -- a parcel has few enough entries for a letter
-  fits : many c.committed.result.now c.tentative.result.now ≤ 1024
+  fits : many c.committed.result.now c.tentative.result.now ≤ MAX_LETTER_ENTRIES
   fits =
       let small = parcel_is_small_lem c.args.has.now.committed c.args.has.now.vector.stamps was in
       let committed = sym (length-map c.committed.result.now plain) ∙ ap (λ (l : PlainLetter). length l.committed) letter in

@@ -1,4 +1,4 @@
-use Rattle.std.proofs.Common.{◌≡◌, sym, subst, rules, MatchResult}
+use Rattle.std.proofs.Common.{◌≡◌, sym, subst, rules, arith, MatchResult}
 use Rattle.bookings.specs.Refusals.{number_of}
 use Rattle.letters.specs.Format.{reads}
 use Rattle.letters.specs.Items.{unread, heard_of}
@@ -13,12 +13,12 @@ returns-then-out-gt0 c =
     c.in_ok-count.count
     c.in_ok-place.place
     c.in_ok-committed.out
-    c.from.result
+    c.from-2.result
     _
     (unread reads c.in_ok-committed.committed)
     (search rules)
     (search rules)
-    c.if-count-gt-LETTER.false
+    (omega (arith, c.if-from-gt-MAX_LETTER_ENTRIES.false, c.from.ensures))
     c.in_ok-committed.ensures.ends
     c.if-out-gt0.true
     c.in_ok-committed.ensures.values
@@ -31,13 +31,13 @@ returns c =
     c.in_ok-count.count
     c.in_ok-place.place
     c.in_ok-committed.out
-    c.from.result
+    c.from-2.result
     c.in_ok-committed.committed.count
     c.look.new.reader.rest.now
     (unread reads c.in_ok-committed.committed)
     (search rules)
     (search rules)
-    c.if-count-gt-LETTER.false
+    (omega (arith, c.if-from-gt-MAX_LETTER_ENTRIES.false, c.from.ensures))
     c.in_ok-committed.ensures.ends
     c.if-out-gt0.false
     c.in_ok-committed.ensures.values

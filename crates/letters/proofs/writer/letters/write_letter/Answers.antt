@@ -14,7 +14,7 @@ returns-then-capacity-start c =
     record {
       written = refl;
       lawful = tt;
-      refused = (omega (arith, c.if-committed-most.false, c.if-tentative-most.false), no_room_lem c.args.out.now l _ _ _ (c.letter_length.ensures.value l.place) c.if-capacity-start.true c.capacity.ensures c.len-start.ensures);
+      refused = (omega (arith, c.if-committed-gt-MAX_LETTER_ENTRIES.false, c.if-tentative-committed.false), no_room_lem c.args.out.now l _ _ _ (c.letter_length.ensures.value l.place) c.if-capacity-start.true c.capacity.ensures c.len-start.ensures);
       enough = λ room _. absurd (omega (arith, room, c.letter_length.ensures.small, c.if-capacity-start.true, c.capacity.ensures, c.len-start.ensures));
     }
 
@@ -49,6 +49,6 @@ returns c =
     record {
       written = subst (λ p. Written a c.put.new.out (encode_letter (plain_letter p c.args.committed.now c.args.tentative.now))) c.place_of.ensures whole;
       lawful = subst (λ p. LetterOk (plain_letter p c.args.committed.now c.args.tentative.now)) c.place_of.ensures c.put_body.ensures.fits;
-      refused = omega (arith, c.if-committed-most.false, c.if-tentative-most.false);
+      refused = omega (arith, c.if-committed-gt-MAX_LETTER_ENTRIES.false, c.if-tentative-committed.false);
       enough = λ _ _. refl;
     }

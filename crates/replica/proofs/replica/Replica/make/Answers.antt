@@ -3,6 +3,7 @@ use Rattle.std.proofs.lemmas.List.{length_push}
 use Rattle.std.proofs.lemmas.Bool.{or_parts, leb-false}
 use Rattle.bookings.specs.Plain.{PlainMark, plain, plain_mark}
 use Rattle.bookings.specs.Views.{book_in}
+use Rattle.bookings.specs.declared.book.TheConstants.{CAPACITY}
 use Rattle.entry_log.specs.Logs.{all_of, top}
 use Rattle.entry_log.specs.Vectors.{vector_of, noted}
 use Rattle.entry_log.specs.Views.{log_in}
@@ -10,12 +11,13 @@ use Rattle.replica.proofs.Making.{above_new, made_last, top-push, vector_push}
 use Rattle.replica.proofs.Stepped.{step_push}
 use Rattle.replica.proofs.replica.Replica.make.Goals as goal
 use Rattle.replica.proofs.replica.Replica.make.Goals.{In_ok-mark, After-with-self}
+use Rattle.replica.specs.declared.head.TheConstants.{LAST_STAMP}
 
 -- there is room, and the mark is above all
-room : (c : In_ok-mark) → length (all_of (log_in c.args.self.now.log)) < 65536
+room : (c : In_ok-mark) → length (all_of (log_in c.args.self.now.log)) < CAPACITY
 room c =
     let head = c.args.self.now.head in
-    omega (arith, leb-false 65536 head.entries (or_parts (leb 65536 head.entries) (leb 4294967295 (head.top + 1)) c.in_ok-mark.ensures.0).0, c.args.self.now.headed.0)
+    omega (arith, leb-false CAPACITY head.entries (or_parts (leb CAPACITY head.entries) (leb LAST_STAMP (head.top + 1)) c.in_ok-mark.ensures.0).0, c.args.self.now.headed.0)
 
 above : (c : In_ok-mark) → top (all_of (log_in c.args.self.now.log)) < (plain_mark c.in_ok-mark.mark).stamp
 above c = omega (arith, ap (λ (m : PlainMark). m.stamp) c.in_ok-mark.ensures.1, c.args.self.now.headed.1)

@@ -1,4 +1,6 @@
 use Rattle.std.proofs.Common.{◌≡◌, ◌+◌, ◌<◌, leb, length, sym, ap, ◌∙◌, arith}
+use Rattle.bookings.specs.declared.book.TheConstants.{CAPACITY}
+use Rattle.replica.specs.declared.head.TheConstants.{LAST_STAMP}
 use lib.ListN.{length-map}
 use Rattle.std.proofs.lemmas.Bool.{or_parts, leb-false}
 use Rattle.bookings.specs.Books.{book_of}
@@ -12,9 +14,9 @@ use Rattle.replica.proofs.replica.Replica.take_tentative.Goals as goal
 use Rattle.replica.proofs.replica.Replica.take_tentative.Goals.{After-insert-place}
 
 module _ (c : After-insert-place) where
-  room : length (all_of (log_in c.args.self.now.log)) < 65536
+  room : length (all_of (log_in c.args.self.now.log)) < CAPACITY
   room =
-      omega (arith, leb-false 65536 _ (or_parts (leb 65536 (length (all_of (log_in c.args.self.now.log)))) (leb 4294967295 c.args.entry.mark.stamp) (sym c.if-has_no_room.ensures)).0)
+      omega (arith, leb-false CAPACITY _ (or_parts (leb CAPACITY (length (all_of (log_in c.args.self.now.log)))) (leb LAST_STAMP c.args.entry.mark.stamp) (sym c.if-has_no_room.ensures)).0)
 
   after : all_of (log_in c.insert-place.new.self) ≡ all_of (add_tentative (plain c.args.entry) (log_in c.args.self.now.log))
   after = ap all_of c.insert-place.ensures.log
