@@ -2,6 +2,7 @@
 ghost use Rattle.desk.specs.Composed.{StayTogether, BeginTogether};
 ghost use Rattle.desk.specs.Laws.{LineByLowest, PrintedCountsAddUp, PrintedStays};
 ghost use Rattle.network.specs.Promise.{Always};
+
 use crate::calls::Desk;
 
 // A line is refused by the lowest number whose condition holds, and is done only where none holds.
