@@ -1,9 +1,13 @@
 -- What is left by a call that is not done.
-use Rattle.std.proofs.Common.{◌≡◌, Ok, Err, Result, MatchResult, sym, subst}
+use Rattle.std.proofs.Common.{◌≡◌, ℕ, List, None, Some, Option, Ok, Err, Result, MatchResult, sym, subst}
 use Rattle.std.specs.Result.{IsErrAnd}
 use Rattle.desk.specs.Failures.{Undone}
 use Rattle.desk.specs.Steps.{Rests}
-use Rattle.journal.specs.History.{Kept}
+use Rattle.bookings.specs.Plain.{PlainEntry}
+use Rattle.journal.proofs.Finding.{found_before}
+use Rattle.journal.specs.Finding.{FindsOf}
+use Rattle.journal.specs.History.{Kept, commits}
+use Rattle.network.specs.Effects.{commits_synced, first_of, synced_if}
 use Rattle.network.specs.declared.unplayed.Unplayed.{Unplayed}
 use Rattle.network.specs.declared.unplayed.Unplayed.TheVariants.{Memory, Refused, Failed}
 
@@ -18,3 +22,11 @@ pub only_fails :
 only_fails keeps was is shut F G Memory never left more = absurd never
 only_fails keeps was is shut F G (Refused why) never left more = absurd never
 only_fails keeps was is shut F G (Failed fault) never left more = more left
+
+-- what a stop finds of a commit, synced or not, it may find of one that is not
+pub found_committed : (finds : List ℕ → Type 0) (k : Kept) → FindsOf finds (commits_synced k) → FindsOf finds (commits k)
+found_committed finds k = either (first_of k)
+  where
+    either : (first : Option PlainEntry) → FindsOf finds (synced_if first (commits k)) → FindsOf finds (commits k)
+    either None f = f
+    either (Some e) f = λ found at. found_before (commits k) found (f found at)

@@ -8,12 +8,12 @@ use Rattle.console.specs.declared.answer.Answer.TheVariants as answers
 use Rattle.console.specs.declared.command.Command.{Command}
 use Rattle.console.specs.declared.command.Command.TheVariants as commands
 use Rattle.entry_log.specs.declared.vector.Vector.{Vector}
-use Rattle.journal.specs.Finding.{FindsOf}
+use Rattle.journal.specs.Finding.{FindsOf, FoundOf}
 use Rattle.journal.specs.History.{Kept, synced, makes, commits}
 use Rattle.letters.specs.Letters.{damaged, read_letter}
 use Rattle.letters.specs.declared.limits.TheConstants.{LETTER_ROOM}
 use Rattle.network.specs.Effects.{commits_synced}
-use Rattle.network.specs.Mail.{Mail, Agrees, Calls, Runs, keeping, posting, visited, made_for}
+use Rattle.network.specs.Mail.{Mail, Agrees, Calls, Runs, keeping, posting, visited, made_for, no_mail}
 use Rattle.network.specs.Net.{Event, Guest, huts, put, served}
 use Rattle.network.specs.Promised.{Promised}
 use Rattle.network.specs.Taking.{take_bytes}
@@ -75,19 +75,25 @@ LineComposes keeps finds i c bs page m r =
 
 -- THE PROGRAMS OF ALL HUTS
 
--- one that goes on, or that has ended, since it was stopped or its journal failed
+-- one that has not begun yet, that goes on, or that has ended, since it was stopped or its journal failed
 pub data Program (D : Type 0) : Type 0 where
+  not_begun : Program D
   goes : D → Program D
   ended : D → Program D
 
--- what it says of what is kept at its hut: it is in step with that, or a stop finds what it may find of that
+-- what it says of what is kept at its hut: no bytes are found of that; it is in step with that; or a stop finds what it may find of that
 abbrev pub says : {D : Type 0} → (D → Kept → Type 0) → (D → List ℕ → Type 0) → Program D → Kept → Type 0
+says keeps finds not_begun k = FoundOf k []
 says keeps finds (goes d) k = keeps d k
 says keeps finds (ended d) k = FindsOf (finds d) k
 
 -- a network that calls led to from empty replicas on, and the programs of its huts
 abbrev pub Together : {D : Type 0} → (D → Kept → Type 0) → (D → List ℕ → Type 0) → (ℕ → Program D) → Mail → Type 0
 Together keeps finds programs m = Runs m × ((i : ℕ) → i < huts → says keeps finds (programs i) (m.hut i))
+
+-- LAW: before any program has begun, they are together with the network in which nothing was done.
+abbrev pub BeginTogether : {D : Type 0} → (D → Kept → Type 0) → (D → List ℕ → Type 0) → Type 0
+BeginTogether keeps finds = Together keeps finds (λ _. not_begun) no_mail
 
 -- LAW: programs that are together stay together when calls at one hut lead on and its program says so, and all laws of the network hold then.
 abbrev pub StayTogether : {D : Type 0} → (D → Kept → Type 0) → (D → List ℕ → Type 0) → Type 0

@@ -1,5 +1,5 @@
 // The laws of desks and of their answers: each function's contract is a law.
-ghost use Rattle.desk.specs.Composed.{StayTogether};
+ghost use Rattle.desk.specs.Composed.{StayTogether, BeginTogether};
 ghost use Rattle.desk.specs.Laws.{LineByLowest, PrintedCountsAddUp, PrintedStays};
 ghost use Rattle.network.specs.Promise.{Always};
 
@@ -23,4 +23,9 @@ pub fn printed_stays()
 // The programs of all huts stay together, whichever of them does a line, ends or is opened again.
 pub fn stay_together<D: Desk>()
     ensures { StayTogether D.keeps D.finds }
+{}
+
+// Before any program has begun, they are together with the network in which nothing was done.
+pub fn begin_together<D: Desk>()
+    ensures { BeginTogether D.keeps D.finds }
 {}

@@ -46,11 +46,6 @@ state_known qs i k within (kept, follows, is) =
     let q = some_hut qs i within in
     state_here qs i (get_or qs i q) within (get_or_default qs i q (get_or qs i q) within) ∙ (follows.in_step i q within).state ∙ ap state_in is
 
-pub synced_known : (qs ps : List Hut) (i : ℕ) (k : Kept) → i < length ps → Turns qs ps i synced → KeptAt qs i k → state_at ps i ≡ state_in k
-synced_known qs ps i k within turns (kept, follows, is) =
-    let on = turns kept follows in
-    state_known ps i _ within (_, on.0, refl) ∙ ap state_in (put_here (hut_at qs i) (hut_at ps i) (synced (kept (hut_at qs i))) kept (on.1 i)) ∙ ap state_in is
-
 -- the replica of a hut is the one that the hut has kept
 state_kept : (s : Stage) (es : List Event) (hut p : ℕ) → Stands s es → PlacedAt (huts_of s) hut p → state_at (huts_of s) p ≡ state_in ((after es).hut hut)
 state_kept s es hut p stands there = state_known (huts_of s) p _ there.0 (_, stands.follows, ap (after es).hut there.1)
