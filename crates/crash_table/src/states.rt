@@ -1,6 +1,7 @@
 // The states that a replica was in: after no step, after the first, and so on.
 use crate::Table;
 use crate::script::{Step, play};
+use bookings::limits::{HUTS, NIGHTS};
 use journal::appender::Appender;
 use journal::journal::Journal;
 use journal::keeper::Keeper;
@@ -20,11 +21,11 @@ pub fn played(heap: Global, steps: &[Step]) -> anyhow::Result<Played> {
 }
 
 fn is_same_hut(one: &Replica, other: &Replica, hut: u64) -> bool {
-    (0..366).all(|night| one.night(hut, night) == other.night(hut, night))
+    (0..NIGHTS as u64).all(|night| one.night(hut, night) == other.night(hut, night))
 }
 
 fn is_same_book(one: &Replica, other: &Replica) -> bool {
-    (0..16).all(|hut| is_same_hut(one, other, hut))
+    (0..HUTS as u64).all(|hut| is_same_hut(one, other, hut))
 }
 
 // Whether two replicas have the same log, with as many committed, the same vector and the same book. Replicas have no `==`, what they show has.

@@ -3,6 +3,7 @@
 
 use crate::asked::{Asked, read_args};
 use crate::serve::serve;
+use bookings::limits::HUTS;
 use console::answer::starts::Usage;
 use std::io::{BufWriter, Write};
 use std::process::ExitCode;
@@ -24,7 +25,8 @@ fn run(rt: &HostRuntime) -> anyhow::Result<()> {
 fn usage(out: &mut impl Write) -> anyhow::Result<()> {
     writeln!(
         out,
-        "usage: hut N, for hut N of 0 to 15. It reads these lines:\n{}",
+        "usage: hut N, for hut N of 0 to {}. It reads these lines:\n{}",
+        HUTS - 1,
         Usage::Hut
     )?;
     Ok(())

@@ -2,7 +2,7 @@
 #![tactic(auto)]
 
 use bookings::entry::Entry;
-use entry_log::waiting::Waiting;
+use entry_log::waiting::{MAX_LETTER_ENTRIES, Waiting};
 use letters::letter::{Item, Letter};
 use letters::writer::{LETTER_ROOM, write_letter};
 use std::alloc::{AllocError, Global};
@@ -30,8 +30,8 @@ fn weight(item: &Item) -> u64 {
 
 // The entries of a letter, in memory of their own; none of one that is damaged.
 fn gathered(heap: Global, bytes: &[u8]) -> Result<(Vec<Entry>, Vec<Waiting>), AllocError> {
-    let mut committed = Vec::with_capacity(heap, 1024)?;
-    let mut tentative = Vec::with_capacity(heap, 1024)?;
+    let mut committed = Vec::with_capacity(heap, MAX_LETTER_ENTRIES)?;
+    let mut tentative = Vec::with_capacity(heap, MAX_LETTER_ENTRIES)?;
     let Ok(letter) = Letter::open(bytes) else {
         return Ok((committed, tentative));
     };

@@ -1,6 +1,7 @@
 // A table with a row for each call of a replica and each number by which it refuses.
 #![tactic(auto)]
 
+use bookings::book::CAPACITY;
 use bookings::entry::{Choices, Entry, Kind, Mark};
 use bookings::refusal::Refusal;
 use console::answer::Answer;
@@ -108,7 +109,7 @@ impl<'a, P: Print> Table<'a, P> {
     // As many entries as a replica can have.
     fn fill(&mut self) {
         // A refusal here would show in the rows that follow: the replica would have room.
-        for _ in 0..65536 {
+        for _ in 0..CAPACITY {
             let _ = self.replica.make(booking());
         }
     }

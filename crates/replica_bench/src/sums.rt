@@ -1,5 +1,6 @@
 // A sum of all that a replica shows.
 
+use bookings::limits::{NIGHTS, PLACES};
 use replica::replica::Replica;
 
 // A sum with a number more; where it stands makes a difference.
@@ -8,7 +9,7 @@ fn mixed(sum: u64, number: u64) -> u64 {
 }
 
 fn with_night(replica: &Replica, sum: u64, place: u64) -> u64 {
-    match replica.night(place / 366, place % 366) {
+    match replica.night(place / NIGHTS as u64, place % NIGHTS as u64) {
         Ok(night) => mixed(mixed(sum, u64::from(night.beds)), u64::from(night.booked)),
         Err(_) => sum,
     }
@@ -24,5 +25,5 @@ pub fn sum_of(replica: &Replica) -> u64 {
             u64::from(entry.mark.hut),
         )
     });
-    (0..5856).fold(marks, |sum, place| with_night(replica, sum, place))
+    (0..PLACES as u64).fold(marks, |sum, place| with_night(replica, sum, place))
 }
