@@ -67,8 +67,15 @@ fn gather_tentative(
     ensures items { map plain_waiting out.new.items ≡ take room (missing has.now.stamps (map plain before.now) (map plain entries.now)) }
     ensures capacity { vec_capacity out.new ≡ vec_capacity out.old }
 {
+    // Without room the vector is not needed, and it costs a pass over all that stand before.
+    if room == 0 {
+        return;
+    }
     let mut stood = vector_of(before);
     for entry in entries {
+        if out.len() >= room {
+            return;
+        }
         offer(entry, stood, has, room, out);
         stood.note(&entry.mark);
     }
