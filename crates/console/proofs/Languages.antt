@@ -1,7 +1,7 @@
 -- What a line of a language says, by its verb and its numbers.
-use Rattle.std.proofs.Common.{◌≡◌, ℕ, ◌≤◌, List, [], ◌∷◌, ◌++◌, map, length, get_or, take, drop, Ok, Result, decimal, refl, ap, ◌∙◌, ne_eqb}
+use Rattle.std.proofs.Common.{◌≡◌, ℕ, ◌≤◌, List, [], ◌∷◌, ◌++◌, map, length, take, drop, Ok, Result, decimal, refl, ap, ◌∙◌}
 use Rattle.bookings.specs.Ranges.{Each}
-use Rattle.console.specs.Languages.{Language, with_numbers_in, in_form_in, by_verb_in, parsed_in, written_by, SpacesDoNotMatterIn, CommentsSayNothingIn}
+use Rattle.console.specs.Languages.{Language, with_numbers_in, in_form_in, written_by, SpacesDoNotMatterIn, CommentsSayNothingIn}
 use Rattle.console.specs.Lines.{TenDigits}
 use Rattle.console.specs.Numbers.{numbers_of}
 use Rattle.console.specs.Words.{spaced, span, words}
@@ -11,12 +11,6 @@ use Rattle.console.proofs.WrittenWords.{words_of_spaced, decimals_are_words, num
 use Rattle.console.specs.declared.numbers.TheConstants.{MAX_NUMBERS}
 
 module _ {V S E : Type 0} (l : Language V S E) where
-  -- a line whose first word begins no comment
-  pub line_says :
-      (line word rest : List ℕ) (r : Result S E) → words line ≡ word ∷ words rest → (get_or word 0 0 ≡ 35 → ⊥)
-      → r ≡ by_verb_in l (l.verb_of word) (words rest) → r ≡ parsed_in l line
-  line_says line word rest r line-is plain said = rw (line-is, ne_eqb (get_or word 0 0) 35 plain) said
-
   -- a verb and numbers say what they say in that form, to whoever reads words in this way
   pub written_says :
       (by : List (List ℕ) → Result S E) (name : List ℕ) (v : V) (ns : List ℕ) → ((ws : List (List ℕ)) → words (spaced ws) ≡ ws → words (name ++ spaced ws) ≡ name ∷ ws)

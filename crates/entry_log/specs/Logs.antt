@@ -32,11 +32,6 @@ abbrev pub into : PlainEntry → List PlainEntry → List PlainEntry
 into e [] = e ∷ []
 into e (f ∷ fs) = cond (before e.mark f.mark) (e ∷ f ∷ fs) (f ∷ into e fs)
 
--- what stands before a mark
-abbrev pub up_to : PlainMark → List PlainEntry → List PlainEntry
-up_to m [] = []
-up_to m (e ∷ es) = cond (same_mark m e.mark) [] (e ∷ up_to m es)
-
 -- the highest stamp of all
 abbrev pub top : List PlainEntry → ℕ
 top [] = 0

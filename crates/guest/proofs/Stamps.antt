@@ -1,5 +1,5 @@
 -- Stamps and the bytes that they are kept as.
-use Rattle.std.proofs.Common.{◌≡◌, ℕ, zero, suc, ◌+◌, ◌*◌, ◌/◌, ◌%◌, ◌^◌, ◌<◌, List, [], ◌∷◌, ◌++◌, length, get_or, set, take, drop, ⊎_elim, refl, sym, ap, ◌∙◌, add-one, arith}
+use Rattle.std.proofs.Common.{◌≡◌, ℕ, suc, ◌+◌, ◌*◌, ◌/◌, ◌%◌, ◌^◌, ◌<◌, List, [], ◌∷◌, ◌++◌, length, get_or, set, drop, ⊎_elim, refl, sym, ap, ◌∙◌, arith}
 use Rattle.std.proofs.lemmas.Bool.{cases_lt}
 use Rattle.std.proofs.lemmas.Grind.{get_or-set_at}
 use Rattle.std.proofs.lemmas.List.{get_or-set_other}
@@ -7,12 +7,6 @@ use Rattle.std.specs.Prelude.{All}
 use Rattle.letters.specs.Format.{four, number_of_four}
 use Rattle.letters.proofs.Bytes.{four_back}
 use Rattle.guest.specs.Slips.{slip_bytes}
-
--- the bytes of one stamp more
-pub bytes_more : (ss : List ℕ) (i d s : ℕ) → i < length ss → s ≡ get_or ss i d → slip_bytes (take i ss) ++ four s ≡ slip_bytes (take (i + 1) ss)
-bytes_more [] i d s h is = absurd (omega arith)
-bytes_more (x ∷ xs) zero d s h is = rw is refl
-bytes_more (x ∷ xs) (suc i) d s h is = rw add-one (ap (λ bs. four x ++ bs) (bytes_more xs i d s (omega arith) is ∙ rw add-one refl))
 
 pub four_bytes_each : (ss : List ℕ) → length (slip_bytes ss) ≡ 4 * length ss
 four_bytes_each [] = refl

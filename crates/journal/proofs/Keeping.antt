@@ -40,18 +40,10 @@ module _ (had has : List ℕ → ℕ → Type 0) (s t : State) (k : Kept) (in_st
       (subst (λ (x : State). length (all_of x.log) ≤ CAPACITY) (follows_state r next) few) in
       omega (arith, record_small r ok.ranged, bytes-few k.hut (history_of k) in_step.stands, below)
 
-  -- all is synced
-  pub keeps_synced : t ≡ s → has (bytes_of (history_of k)) (length (bytes_of (history_of k))) → Keeps has t (synced k)
-  keeps_synced is bytes = record { bytes = bytes; state = is ∙ in_step.state; stands = in_step.stands }
-
   -- both
   pub keeps_wrote-synced :
       (r : PlainRecord) → EntryOk (entry_of r) → Follows r s t → has (bytes_of (history_of k) ++ encode_record r) (length (bytes_of (history_of k) ++ encode_record r)) → Keeps has t (synced (wrote r k))
   keeps_wrote-synced r ok next bytes = record { bytes = bytes; state = follows_state r next; stands = (ok, ap (replay_refusal r) (sym in_step.state) ∙ next.0, in_step.stands) }
-
-  -- nothing happens
-  pub keeps_still : t ≡ s → has (bytes_of (history_of k)) (length (bytes_of k.durable)) → Keeps has t k
-  keeps_still is bytes = record { bytes = bytes; state = is ∙ in_step.state; stands = in_step.stands }
 
 pub durable-within : (older rs : List PlainRecord) → length (bytes_of older) ≤ length (bytes_of (rs ++ older))
 durable-within older [] = omega arith

@@ -25,9 +25,6 @@ row_suc read (suc n) bs r s xs x all one =
     ∙ ap (λ zs. whole (zs ++ x ∷ []) s) split.1.1
 
 module _ {A : Type 0} (read : List ℕ → Answer A) (bs : List ℕ) where
-  pub own_none : OwnRow read 0 bs bs
-  own_none = ([], (refl, ([], λ more. refl)))
-
   pub own_more : (n : ℕ) (r s : List ℕ) (x : A) → OwnRow read n bs r → OwnPart read x r s → OwnRow read (n + 1) bs s
   own_more n r s x row one = (
     row.0 ++ one.0,
@@ -43,16 +40,10 @@ module _ {A : Type 0} (read : List ℕ → Answer A) (bs : List ℕ) where
     ),
   )
 
-  row_shorter : (n : ℕ) (r : List ℕ) → OwnRow read n bs r → length r ≤ length bs
-  row_shorter n r row = omega (arith, ap length row.1.0, length-append row.0 r)
-
   part_is : (n : ℕ) (r : List ℕ) (row : OwnRow read n bs r) → take (length bs - length r) bs ≡ row.0
   part_is n r row =
       let long : length bs - length r ≡ length row.0 = omega (arith, ap length row.1.0, length-append row.0 r) in
       ap (λ k. take k bs) long ∙ ap (take (length row.0)) row.1.0 ∙ take-append_seam row.0 r
-
-  part_before : (n : ℕ) (r : List ℕ) → OwnRow read n bs r → bs ≡ take (length bs - length r) bs ++ r
-  part_before n r row = row.1.0 ∙ ap (λ t. t ++ r) (sym (part_is n r row))
 
   front_whole : (n : ℕ) (cs r : List ℕ) (xs : List A) → read_row read n cs ≡ whole xs r → front read n cs ≡ xs
   front_whole n cs r xs h =

@@ -1,6 +1,5 @@
 -- A loop that goes past a row: what is left decides where it ends. A row is its front and its end.
-use Rattle.std.proofs.Common.{◌≡◌, ℕ, zero, suc, ◌+◌, ◌-◌, ◌<◌, ◌≤◌, false, cond, eqb, List, [], ◌∷◌, sym, refl, ap, ◌∙◌, add-one, arith}
-use Rattle.std.proofs.lemmas.Bool.{ne_eqb}
+use Rattle.std.proofs.Common.{◌≡◌, ℕ, zero, suc, ◌+◌, ◌-◌, ◌<◌, ◌≤◌, List, [], ◌∷◌, sym, refl, ap, ◌∙◌, add-one, arith}
 use Rattle.letters.specs.Answers.{Answer, got, short, out}
 use Rattle.letters.specs.Rows.{Row, whole, stopped, torn, adds, row_after, read_row, End, through, halted, cut, end_of, front, front_after}
 
@@ -19,19 +18,6 @@ module _ {A : Type 0} (read : List ℕ → Answer A) (n i : ℕ) (bs r : List �
       let m-is : n - i ≡ (n - (i + 1)) + 1 = omega arith in
       let step : read_row read (n - i) r ≡ adds x (read_row read (n - (i + 1)) s) = rw (m-is, add-one, one) refl in
       inv ∙ ap end_of step ∙ end_adds x (read_row read (n - (i + 1)) s)
-
-  pub ends_cut : i < n → Passed → read r ≡ short → end_of (read_row read n bs) ≡ cut
-  ends_cut lt inv one =
-      let m-is : n - i ≡ (n - (i + 1)) + 1 = omega arith in inv ∙ rw (m-is, add-one, one) refl
-
-  pub ends_halted : (x : End) → i < n → Passed → read r ≡ out → end_of (read_row read n bs) ≡ cond (eqb (n - i) 0) x (halted (n - i))
-  ends_halted x lt inv one =
-      let m-is : n - i ≡ (n - (i + 1)) + 1 = omega arith in
-      let some : eqb (n - i) 0 ≡ false = ne_eqb (n - i) 0 (λ none. omega (arith, none, lt)) in
-      inv ∙ rw (some, m-is, add-one, one) refl
-
-  pub ends_through : n ≤ i → Passed → end_of (read_row read n bs) ≡ through r
-  ends_through le inv = let none : n - i ≡ 0 = omega arith in inv ∙ rw none refl
 
 abbrev pub row_from : {A : Type 0} → List A → End → Row A
 row_from xs (through r) = whole xs r

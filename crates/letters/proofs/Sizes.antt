@@ -1,6 +1,5 @@
 -- How many bytes the parts of an entry take.
-use Rattle.std.proofs.Common.{◌≡◌, ℕ, ◌+◌, ◌*◌, ◌<◌, ◌≤◌, List, [], ◌∷◌, ◌++◌, map, length, get_or, take, sym, refl, ap, ◌∙◌, arith, length-append, take_all}
-use Rattle.std.proofs.lemmas.List.{map_more, flat_map_more}
+use Rattle.std.proofs.Common.{◌≡◌, ℕ, ◌*◌, ◌≤◌, List, [], ◌∷◌, map, length, take, refl, arith}
 use Rattle.std.specs.List.{flat_map}
 use Rattle.bookings.specs.Plain.{PlainChoice, PlainKind, book, cancel, change, supply}
 use Rattle.bookings.specs.Ranges.{KindOk}
@@ -30,17 +29,3 @@ module _ {A X : Type 0} (enc : A → List ℕ) (f : X → A) (all : List X) wher
   pub record Sums (sum i : ℕ) : Type 0 where
     pub value : sum ≡ length (flat_map enc (map f (take i all)))
     pub small : sum ≤ WAITING_ROOM * i
-
-  pub sums_more : (sum i k : ℕ) (x : X) → i < length all → x ≡ get_or all i x → Sums sum i → k ≡ length (enc (f x)) → k ≤ WAITING_ROOM → Sums (sum + k) (i + 1)
-  sums_more sum i k x h x-is so k-is few =
-      let grown : length (flat_map enc (map f (take (i + 1) all))) ≡ length (flat_map enc (map f (take i all)) ++ enc (f x)) =
-      ap (λ xs. length (flat_map enc xs)) (map_more f all i x h)
-      ∙ ap length (sym (flat_map_more enc [] (map f (take i all)) (f (get_or all i x))))
-      ∙ ap (λ y. length (flat_map enc (map f (take i all)) ++ enc (f y))) (sym x-is) in
-      record {
-        value = omega (arith, so.value, k-is, grown, length-append (flat_map enc (map f (take i all))) (enc (f x)));
-        small = omega (arith, so.small, few);
-      }
-
-  pub sums_all : (sum i : ℕ) → length all ≤ i → Sums sum i → sum ≡ length (flat_map enc (map f all))
-  sums_all sum i le so = so.value ∙ ap (λ xs. length (flat_map enc (map f xs))) (take_all i all le)

@@ -4,7 +4,8 @@ use mathlib.Core.List.Memᴰ
 use mathlib.Core.List.{Memᴰ}
 use Rattle.bookings.specs.Plain.{PlainEntry}
 use Rattle.letters.specs.Items.{PlainItem, settled, waiting}
-use Rattle.network.specs.Lasting.{LastingKnown, Somewhere, entry_in, handed_on, known_now, seen_by, synced_once}
+use Rattle.network.specs.Items.{entry_in}
+use Rattle.network.specs.Lasting.{LastingKnown, Somewhere, handed_on, known_now, seen_by, synced_once}
 use Rattle.network.specs.Net.{Net, after, start}
 use Rattle.network.specs.Promise.{Always}
 use Rattle.network.specs.Replicas.{entries_in, tentative_of}

@@ -7,7 +7,8 @@ use Rattle.journal.specs.History.{Committed, Kept, commits, commits_entry, histo
 use Rattle.entry_log.specs.Logs.{first_entry}
 use Rattle.letters.specs.Items.{PlainItem, settled, waiting}
 use Rattle.replica.specs.Model.{is_primary}
-use Rattle.network.specs.Lasting.{Somewhere, entry_in}
+use Rattle.network.specs.Items.{entry_in}
+use Rattle.network.specs.Lasting.{Somewhere}
 use Rattle.network.specs.Net.{Commits, Net, Takes, Writes, among, huts, step, with_hut}
 use Rattle.network.specs.Promise.{exchange}
 use Rattle.network.specs.Replicas.{committed_in, entries_in, entries_of, tentative_in, vector_in}

@@ -6,7 +6,8 @@ use Rattle.entry_log.specs.Vectors.{vector_of}
 use Rattle.entry_log.specs.Waits.{PlainWaiting}
 use Rattle.letters.specs.Items.{placed_from, waiting}
 use Rattle.replica.specs.Parcels.{missing}
-use Rattle.network.specs.Offering.{PartOf, entry_in}
+use Rattle.network.specs.Items.{entry_in}
+use Rattle.network.specs.Offering.{PartOf}
 use Rattle.network.proofs.Tests.{cond_by}
 
 part_all : (es : List PlainEntry) → PartOf es es

@@ -10,8 +10,8 @@ use Rattle.entry_log.specs.Waits.{PlainWaiting}
 use Rattle.journal.specs.History.{Kept}
 use Rattle.letters.specs.Items.{PlainItem, placed_from, settled, waiting}
 use Rattle.replica.specs.Parcels.{missing}
-use Rattle.network.specs.Items.{all_for}
-use Rattle.network.specs.Offering.{CommittedBehind, Offers, OffersWhatLacks, PartOf, entry_in}
+use Rattle.network.specs.Items.{all_for, entry_in}
+use Rattle.network.specs.Offering.{CommittedBehind, Offers, OffersWhatLacks, PartOf}
 use Rattle.network.specs.Replicas.{committed_in, entries_in, tentative_in}
 use Rattle.network.proofs.Letters.{drop_splits, letter-first, placed_item}
 use Rattle.network.proofs.Lists.{by_append, by_cons, none_in, place_of}

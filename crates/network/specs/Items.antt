@@ -1,5 +1,6 @@
 -- What a letter holds: items, which a replica takes one after another.
 use Rattle.std.specs.Prelude.{ℕ, Bool, cond, List, [], ◌∷◌, ◌++◌, map, drop, Option}
+use Rattle.bookings.specs.Plain.{PlainEntry}
 use Rattle.journal.specs.History.{PlainRecord, Tentative, Committed, Kept, state_in, takes_tentative, takes_committed}
 use Rattle.replica.specs.Model.{State, take_tentative_refusal, take_committed_refusal}
 use Rattle.letters.specs.Items.{PlainItem, settled, waiting, placed_from}
@@ -7,6 +8,11 @@ use Rattle.replica.specs.Parcels.{PlainParcel, missing, parcel_for}
 
 abbrev pub Letter : Type 0
 Letter = List PlainItem
+
+-- the entry that an item bears
+abbrev pub entry_in : PlainItem → PlainEntry
+entry_in (settled place e) = e
+entry_in (waiting w) = w.entry
 
 -- what a parcel holds, whose first committed entry has that place
 abbrev pub packed : ℕ → PlainParcel → Letter

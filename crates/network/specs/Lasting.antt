@@ -2,18 +2,14 @@
 use Rattle.std.specs.Prelude.{◌≡◌, ℕ, List, ◌++◌}
 use mathlib.Core.List.{Memᴰ}
 use Rattle.bookings.specs.Plain.{PlainEntry}
-use Rattle.letters.specs.Items.{PlainItem, settled, waiting}
-use Rattle.network.specs.Items.{Letter}
+use Rattle.letters.specs.Items.{PlainItem}
+use Rattle.network.specs.Items.{Letter, entry_in}
 use Rattle.network.specs.Net.{Net, Event, after, held}
 use Rattle.network.specs.Replicas.{entries_in, entries_of}
 
 -- some hut knows an entry
 abbrev pub Somewhere : Net → PlainEntry → Type 0
 Somewhere n k = (h : ℕ) × Memᴰ k (entries_in (n.hut h))
-
-abbrev pub entry_in : PlainItem → PlainEntry
-entry_in (settled place e) = e
-entry_in (waiting w) = w.entry
 
 -- an entry that a hut has now; that was synced at a hut at some time; that stands in a letter; or
 -- that a guest was shown, or had made

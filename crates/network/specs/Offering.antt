@@ -8,8 +8,8 @@ use Rattle.entry_log.specs.Vectors.{vector_of}
 use Rattle.entry_log.specs.Waits.{PlainWaiting}
 use Rattle.entry_log.specs.declared.waiting.TheConstants.{MAX_LETTER_ENTRIES}
 use Rattle.journal.specs.History.{Kept}
-use Rattle.letters.specs.Items.{PlainItem, settled, waiting}
-use Rattle.network.specs.Items.{all_for, words_for}
+use Rattle.letters.specs.Items.{settled, waiting}
+use Rattle.network.specs.Items.{all_for, entry_in, words_for}
 use Rattle.network.specs.Replicas.{committed_in, entries_in, tentative_in}
 
 -- a committed entry at its place, which is not among the first so many
@@ -32,10 +32,6 @@ pub data PartOf : List PlainEntry → List PlainEntry → Type 0 where
   none : PartOf [] []
   kept : {e : PlainEntry} {es fs : List PlainEntry} → PartOf es fs → PartOf (e ∷ es) (e ∷ fs)
   left : {e : PlainEntry} {es fs : List PlainEntry} → PartOf es fs → PartOf es (e ∷ fs)
-
-abbrev pub entry_in : PlainItem → PlainEntry
-entry_in (settled place e) = e
-entry_in (waiting w) = w.entry
 
 pub record Offers (count : ℕ) (has : List ℕ) (k : Kept) : Type 0 where
   pub committed :
