@@ -170,6 +170,14 @@ impl Book {
     }
 }
 
+/// Where a mark goes among sorted entries: most come last.
+fn spot_of(sorted: &[Entry], mark: Mark) -> usize {
+    if sorted.last().is_none_or(|last| last.mark <= mark) {
+        return sorted.len();
+    }
+    sorted.partition_point(|known| known.mark <= mark)
+}
+
 /// By its number.
 pub type Refused = u8;
 
@@ -245,7 +253,7 @@ impl Replica {
         if self.has_no_room(entry.mark.stamp) {
             return Err(8);
         }
-        let spot = self.log[self.committed..].partition_point(|known| known.mark <= entry.mark);
+        let spot = spot_of(&self.log[self.committed..], entry.mark);
         self.insert(self.committed + spot, entry);
         Ok(())
     }
