@@ -1,13 +1,26 @@
 -- What a stop leaves of some bytes it may leave of more, and opening that gives a history.
-use Rattle.std.proofs.Common.{ℕ, ◌≤◌, min, List, ◌++◌, drop, length, sym, ap, ◌∙◌, arith}
-use Rattle.std.proofs.lemmas.List.{take-append-le}
-use Rattle.journal.specs.Finding.{Found, FoundOf}
+use Rattle.std.proofs.Common.{◌≡◌, ℕ, ◌≤◌, min, List, ◌++◌, drop, length, take, refl, sym, ap, ◌∙◌, arith}
+use Rattle.std.proofs.lemmas.List.{take-append-le, take-take, length-take}
+use Rattle.journal.specs.Finding.{Found, FoundFirst, FoundOf}
 use Rattle.journal.specs.History.{PlainRecord, Kept, history_of, synced, wrote}
 use Rattle.journal.specs.Laws.{OpensAfterStop}
 use Rattle.journal.specs.Records.{Stands, bytes_of, encode_record, history_in}
 use Rattle.journal.proofs.Keeping.{durable-within}
 use Rattle.journal.proofs.Opening.{opens_after_crash_lem}
 use Rattle.journal.proofs.Parts.{take_capped}
+
+-- what is first of all that may be found stands among the bytes that are synced
+pub first_synced :
+    (bs held : List ℕ) (synced : ℕ) → synced ≤ length held → FoundFirst (Found held synced) bs → (length bs ≤ synced) × (take (length bs) held ≡ bs)
+first_synced bs held synced within first =
+    let e = first (take synced held) (synced, omega arith, refl) in
+    let few : length bs ≤ synced = omega (arith, ap length e, length-take (length bs) (take synced held), length-take synced held) in
+    (few, sym (take-take (length bs) synced held few) ∙ e)
+
+pub synced_first :
+    (bs held : List ℕ) (synced : ℕ) → length bs ≤ synced → take (length bs) held ≡ bs → FoundFirst (Found held synced) bs
+synced_first bs held synced few e found f =
+    ap (take (length bs)) f.2 ∙ take-take (length bs) f.0 held (omega (arith, f.1, few)) ∙ e
 
 pub found_behind : (bs more : List ℕ) (synced : ℕ) (found : List ℕ) → synced ≤ length bs → Found bs synced found → Found (bs ++ more) synced found
 found_behind bs more synced found within f =

@@ -17,3 +17,7 @@ FoundOf k found = Found (bytes_of (history_of k)) (length (bytes_of k.durable)) 
 
 abbrev pub FindsOf : (List ℕ → Type 0) → Kept → Type 0
 FindsOf finds k = (found : List ℕ) → finds found → FoundOf k found
+
+-- whatever is found begins with these bytes
+abbrev pub FoundFirst : (List ℕ → Type 0) → List ℕ → Type 0
+FoundFirst finds bs = (found : List ℕ) → finds found → take (length bs) found ≡ bs

@@ -1,7 +1,7 @@
 // A journal over a medium. After a failed write or sync it takes no more.
 ghost use Rattle.std.specs.Prelude.{◌≡◌, ℕ, ◌+◌, ◌<◌, ◌≤◌, Bool, true, false, not, List, ◌++◌, length, take, is_ok, MatchResult};
 ghost use Rattle.std.proofs.Common.{rules};
-ghost use Rattle.journal.specs.Finding.{OnlyFinds};
+ghost use Rattle.journal.specs.Finding.{FoundFirst, OnlyFinds};
 ghost use Rattle.journal.specs.Phases.{is_synced, is_shut};
 ghost use Rattle.journal.specs.declared.phase.Phase.TheVariants.{Written};
 
@@ -32,6 +32,7 @@ impl<M: Medium + Drop> Appender<M> {
         ensures phase { MatchResult result (λ _. is_synced self.new.phase ≡ true) (λ _. is_shut self.new.phase ≡ true) }
         ensures holds { (bs : List ℕ) (n : ℕ) → is_ok result ≡ true → M.holds self.old.medium bs n → M.holds self.new.medium bs (length bs) }
         ensures finds { (bs : List ℕ) (n : ℕ) → is_ok result ≡ false → M.holds self.old.medium bs n → OnlyFinds (M.finds self.new.medium) bs n }
+        ensures lasts { (bs : List ℕ) → FoundFirst (M.finds self.old.medium) bs → FoundFirst (M.finds self.new.medium) bs }
         ensures room { M.room self.old.medium ≤ M.room self.new.medium }
         ensures sure { 0 < M.room self.old.medium → is_ok result ≡ true }
     {

@@ -1,6 +1,6 @@
 // A journal: bytes that are only appended to, and synced.
 ghost use Rattle.std.specs.Prelude.{◌≡◌, ℕ, ◌+◌, ◌<◌, ◌≤◌, Bool, true, false, not, List, ◌++◌, length, is_ok};
-ghost use Rattle.journal.specs.Finding.{OnlyFinds};
+ghost use Rattle.journal.specs.Finding.{FoundFirst, OnlyFinds};
 
 use crate::fault::Fault;
 
@@ -24,6 +24,7 @@ pub trait Journal {
     fn append(&mut self, more: &[u8]) -> Result<(), Fault>
         ensures keeps { (bs : List ℕ) (n : ℕ) → is_ok result ≡ true → keeps self.old bs n → keeps self.new (bs ++ more.now) n }
         ensures finds { (bs : List ℕ) (n : ℕ) → is_ok result ≡ false → keeps self.old bs n → OnlyFinds (finds self.new) (bs ++ more.now) n }
+        ensures lasts { (bs : List ℕ) → FoundFirst (finds self.old) bs → FoundFirst (finds self.new) bs }
         ensures room { room self.old ≤ room self.new }
         ensures sure { (bs : List ℕ) (n : ℕ) → keeps self.old bs n → length bs + length more.now < room self.old → is_ok result ≡ true }
         ensures shut { (shut self.new ≡ not (is_ok result)) × ((shut self.old ≡ true → is_ok result ≡ false)) };
@@ -31,6 +32,7 @@ pub trait Journal {
     fn sync(&mut self) -> Result<(), Fault>
         ensures keeps { (bs : List ℕ) (n : ℕ) → is_ok result ≡ true → keeps self.old bs n → keeps self.new bs (length bs) }
         ensures finds { (bs : List ℕ) (n : ℕ) → is_ok result ≡ false → keeps self.old bs n → OnlyFinds (finds self.new) bs n }
+        ensures lasts { (bs : List ℕ) → FoundFirst (finds self.old) bs → FoundFirst (finds self.new) bs }
         ensures room { room self.old ≤ room self.new }
         ensures sure { (bs : List ℕ) (n : ℕ) → keeps self.old bs n → 0 < room self.old → is_ok result ≡ true }
         ensures clean { is_ok result ≡ true → clean self.new ≡ true }

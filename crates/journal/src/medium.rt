@@ -1,6 +1,6 @@
 // What a disk does.
 ghost use Rattle.std.specs.Prelude.{◌≡◌, ℕ, ◌+◌, ◌<◌, ◌≤◌, true, false, List, ◌++◌, length, take, is_ok};
-ghost use Rattle.journal.specs.Finding.{OnlyFinds};
+ghost use Rattle.journal.specs.Finding.{FoundFirst, OnlyFinds};
 
 use crate::fault::Fault;
 
@@ -18,6 +18,7 @@ pub trait Medium {
     fn put(&mut self, more: &[u8]) -> Result<(), Fault>
         ensures holds { (bs : List ℕ) (n : ℕ) → is_ok result ≡ true → holds self.old bs n → holds self.new (bs ++ more.now) n }
         ensures finds { (bs : List ℕ) (n : ℕ) → is_ok result ≡ false → holds self.old bs n → OnlyFinds (finds self.new) (bs ++ more.now) n }
+        ensures lasts { (bs : List ℕ) → FoundFirst (finds self.old) bs → FoundFirst (finds self.new) bs }
         ensures room { room self.old ≤ room self.new }
         ensures sure { (bs : List ℕ) (n : ℕ) → holds self.old bs n → length bs + length more.now < room self.old → is_ok result ≡ true };
 
@@ -25,6 +26,7 @@ pub trait Medium {
     fn settle(&mut self) -> Result<(), Fault>
         ensures holds { (bs : List ℕ) (n : ℕ) → is_ok result ≡ true → holds self.old bs n → holds self.new bs (length bs) }
         ensures finds { (bs : List ℕ) (n : ℕ) → is_ok result ≡ false → holds self.old bs n → OnlyFinds (finds self.new) bs n }
+        ensures lasts { (bs : List ℕ) → FoundFirst (finds self.old) bs → FoundFirst (finds self.new) bs }
         ensures room { room self.old ≤ room self.new }
         ensures sure { 0 < room self.old → is_ok result ≡ true };
 
@@ -32,6 +34,7 @@ pub trait Medium {
     fn cut(&mut self, left: usize) -> Result<(), Fault>
         ensures holds { (bs : List ℕ) (n : ℕ) → is_ok result ≡ true → n ≤ left → holds self.old bs n → holds self.new (take left bs) n }
         ensures finds { (bs : List ℕ) (n : ℕ) → is_ok result ≡ false → n ≤ left → holds self.old bs n → OnlyFinds (finds self.new) bs n }
+        ensures lasts { (bs : List ℕ) → length bs ≤ left → FoundFirst (finds self.old) bs → FoundFirst (finds self.new) bs }
         ensures room { room self.old ≤ room self.new }
         ensures sure { 0 < room self.old → is_ok result ≡ true };
 
