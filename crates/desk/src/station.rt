@@ -96,6 +96,9 @@ impl<J: Journal + Drop> Desk for Station<J> {
 
     ghost finds = { λ s bs. J.finds s.keeper.journal bs };
 
+    // It is one hut alone.
+    ghost beside = { λ _ _. Unit {0} };
+
     ghost unsynced = { λ s. J.clean s.keeper.journal ≡ false };
 
     ghost shut = { λ s. J.shut s.keeper.journal ≡ true };

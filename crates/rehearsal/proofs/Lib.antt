@@ -1,1 +1,2 @@
+mod Beside
 pub mod Sending

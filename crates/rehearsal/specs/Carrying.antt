@@ -78,6 +78,10 @@ heard_at qs i bs kept = put (hut_at qs i) (take_bytes bs (kept (hut_at qs i))) k
 abbrev pub KeptAt : List Hut → (place : ℕ) → Kept → Type 0
 KeptAt qs i k = (kept : ℕ → Kept) × Follows qs kept × (kept (hut_at qs i) ≡ k)
 
+-- the replica at a place keeps something, and each other that
+abbrev pub BesideAt : List Hut → (place : ℕ) → (ℕ → Kept) → Type 0
+BesideAt qs i kept = (k : Kept) × Follows qs (put (hut_at qs i) k kept)
+
 -- a crash may leave these bytes of the journal of the replica at a place
 abbrev pub FoundAt : List Hut → (place : ℕ) → List ℕ → Type 0
 FoundAt qs i found = (q : Hut) × Found (vec_items (get_or qs i q).journal.medium.held) (get_or qs i q).journal.medium.settled found

@@ -1,5 +1,6 @@
 use Rattle.std.proofs.Common.{arith}
 use Rattle.network.specs.Stages.{huts_of}
+use Rattle.rehearsal.proofs.Beside.{beside_told}
 use Rattle.rehearsal.proofs.Sending.{once_synced}
 use Rattle.rehearsal.proofs.cast.Cast.play.Goals as goal
 
@@ -8,3 +9,8 @@ returns-clause-clean c = λ sync.
     let cast = c.args.self.now in
     let stage = c.play.new.self.stage in
     once_synced (huts_of stage) cast.current c.play.result (omega (arith, cast.within, c.play.ensures.many, stage.keepers.ok.0)) (c.play.ensures.clean sync)
+
+pub returns-clause-beside : goal.returns-clause-beside
+returns-clause-beside c = λ kept had.
+    let cast = c.args.self.now in
+    beside_told cast.rehearsal.stage c.play.new.self.stage cast.current c.args.act.now c.play.result (c.play.ensures.turned cast.within) kept had
