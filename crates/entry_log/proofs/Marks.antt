@@ -1,5 +1,5 @@
 -- The order of marks, and what a list in that order has.
-use Rattle.std.proofs.Common.{◌≡◌, ℕ, zero, suc, ◌<◌, ◌≤◌, true, false, List, [], ◌∷◌, length, get_or, refl, arith}
+use Rattle.std.proofs.Common.{◌≡◌, ℕ, zero, suc, ◌<◌, ◌≤◌, true, false, List, [], ◌∷◌, ◌++◌, ◌+◌, Bool, cond, length, get_or, refl, ap, arith}
 use Rattle.std.proofs.lemmas.Bool.{and_parts, and_from, cond_both}
 use Rattle.std.proofs.lemmas.Bool.Decides.{nat_tests}
 use Rattle.bookings.specs.Books.{same_mark}
@@ -47,3 +47,38 @@ spot_high m (e ∷ es) (suc k) d sorted h is =
     let there = before_through m e.mark (get_or es k d).mark first (behind_at e.mark es k d parts.0 (omega arith)) in
     absurd (let z : ◌≡◌ {A = ℕ} 0 1 = cc in omega arith))
     (λ _. omega (arith, spot_high m es k d parts.1 (omega arith) is))
+
+-- the parts of a list in order are in order
+behind_front : (m : PlainMark) (xs ys : List PlainEntry) → all_behind m (xs ++ ys) ≡ true → all_behind m xs ≡ true
+behind_front m [] ys all = refl
+behind_front m (x ∷ xs) ys all =
+    let both = and_parts (before m x.mark) (all_behind m (xs ++ ys)) all in and_from _ _ both.0 (behind_front m xs ys both.1)
+
+pub ascends_parts : (xs ys : List PlainEntry) → ascends (xs ++ ys) ≡ true → (ascends xs ≡ true) × (ascends ys ≡ true)
+ascends_parts [] ys sorted = (refl, sorted)
+ascends_parts (x ∷ xs) ys sorted =
+    let both = and_parts (all_behind x.mark (xs ++ ys)) (ascends (xs ++ ys)) sorted in
+    let rest = ascends_parts xs ys both.1 in
+    (and_from _ _ (behind_front x.mark xs ys both.0) rest.0, rest.1)
+
+-- where a mark comes before one of the first part, its spot is there
+pub spot_front : (m : PlainMark) (xs ys : List PlainEntry) → spot m xs < length xs → spot m (xs ++ ys) ≡ spot m xs
+spot_front m [] ys = λ h. absurd (omega arith)
+spot_front m (x ∷ xs) ys = step (before m x.mark) (spot_front m xs ys)
+  where
+    step :
+        (b : Bool) → (spot m xs < length xs → spot m (xs ++ ys) ≡ spot m xs) → cond b 0 (suc (spot m xs)) < suc (length xs)
+        → cond b 0 (suc (spot m (xs ++ ys))) ≡ cond b 0 (suc (spot m xs))
+    step true further h = refl
+    step false further h = ap suc (further (omega (arith, h)))
+
+-- else it is behind that part, as far as it is in the other
+pub spot_back : (m : PlainMark) (xs ys : List PlainEntry) → spot m xs ≡ length xs → spot m (xs ++ ys) ≡ length xs + spot m ys
+spot_back m [] ys = λ h. omega arith
+spot_back m (x ∷ xs) ys = step (before m x.mark) (spot_back m xs ys)
+  where
+    step :
+        (b : Bool) → (spot m xs ≡ length xs → spot m (xs ++ ys) ≡ length xs + spot m ys) → cond b 0 (suc (spot m xs)) ≡ suc (length xs)
+        → cond b 0 (suc (spot m (xs ++ ys))) ≡ suc (length xs) + spot m ys
+    step true further h = absurd (omega (arith, h))
+    step false further h = let e = further (omega (arith, h)) in omega (arith, e)

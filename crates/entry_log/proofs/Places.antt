@@ -1,8 +1,8 @@
 -- Where a mark stands among entries of the code.
-use Rattle.std.proofs.Common.{◌≡◌, ℕ, Bool, refl, ◌-◌, ◌<◌, ◌≤◌, true, false, not, List, [], ◌∷◌, map, length, get_or, slice_get, Some, None, Option, ap, ◌∙◌, arith, ⊎_elim}
+use Rattle.std.proofs.Common.{◌≡◌, ℕ, Bool, refl, ◌-◌, ◌<◌, ◌≤◌, ◌==◌, true, false, not, List, [], ◌∷◌, ◌++◌, ◌+◌, map, length, get_or, slice_get, Some, None, Option, ap, sym, ◌∙◌, arith, ⊎_elim, inl, inr}
 use lib.ListN.{length-map}
-use Rattle.std.proofs.lemmas.Bool.{cases_Bool, cases_lt}
-use Rattle.std.proofs.lemmas.List.{get_or-map}
+use Rattle.std.proofs.lemmas.Bool.{cases_Bool, cases_lt, eq-eqb, ne_eqb, eqb-true, eqb-false}
+use Rattle.std.proofs.lemmas.List.{get_or-map, map-append}
 use Rattle.std.proofs.lemmas.Option.{get_or_from_slice_get, slice_get_within}
 use Rattle.std.specs.List.{AllWithin, HoldsAt}
 use Rattle.std.specs.Option.{MatchOption}
@@ -11,7 +11,7 @@ use Rattle.bookings.specs.Plain.{PlainMark, PlainEntry, plain, plain_mark}
 use Rattle.bookings.specs.declared.entry.Entry.{Entry}
 use Rattle.entry_log.specs.Logs.{has, spot}
 use Rattle.entry_log.specs.Order.{before, ascends}
-use Rattle.entry_log.proofs.Marks.{spot_within, spot_low, spot_high}
+use Rattle.entry_log.proofs.Marks.{ascends_parts, spot_back, spot_front, spot_within, spot_low, spot_high}
 use Rattle.entry_log.proofs.Putting.{has_nowhere}
 use Rattle.entry_log.proofs.Views.{at_entry}
 
@@ -71,15 +71,49 @@ spot_point m (e ∷ es) r sorted within front back =
     not_false true e = refl
     not_false false e = cc
 
--- where the mark does not come before the last entry, its spot is behind all
-pub spot_behind :
-    (m : PlainMark) (es : List Entry) (e : Entry) → ascends (map plain es) ≡ true → slice_get es (length es - 1) ≡ Some e
-    → before m (plain_mark e.mark) ≡ false → length es ≡ spot m (map plain es)
-spot_behind m es e sorted last not_before =
-    let many = length-map es plain in
+last_there :
+    (es : List Entry) (e : Entry) → slice_get es (length es - 1) ≡ Some e
+    → (length es - 1 < length es) × (get_or (map plain es) (length es - 1) (plain e) ≡ plain e)
+last_there es e last =
     let within = slice_get_within es (length es - 1) e last in
-    let at : get_or (map plain es) (length es - 1) (plain e) ≡ plain e =
-    get_or-map plain es (length es - 1) e (plain e) within ∙ ap plain (get_or_from_slice_get es (length es - 1) e e last) in
-    let high = spot_high m (map plain es) (length es - 1) (plain e) sorted (omega arith) (rw at not_before) in
+    (within, get_or-map plain es (length es - 1) e (plain e) within ∙ ap plain (get_or_from_slice_get es (length es - 1) e e last))
+
+-- where the mark does not come before the last entry, its spot is behind all; else it is not
+pub last_decides :
+    (m : PlainMark) (es : List Entry) (e : Entry) → ascends (map plain es) ≡ true → slice_get es (length es - 1) ≡ Some e
+    → not (before m (plain_mark e.mark)) ≡ (spot m (map plain es) == length es)
+last_decides m es e sorted last =
+    let many = length-map es plain in
+    let there = last_there es e last in
+    ⊎_elim
+    (λ yes.
+    let low = spot_low m (map plain es) (length es - 1) (plain e) (omega (arith, there.0)) (rw there.1 yes) in
+    ap not yes ∙ sym (ne_eqb (spot m (map plain es)) (length es) (λ same. omega (arith, there.0))))
+    (λ no.
+    let high = spot_high m (map plain es) (length es - 1) (plain e) sorted (omega (arith, there.0)) (rw there.1 no) in
     let upto = spot_within m (map plain es) in
-    omega arith
+    ap not no ∙ sym (eq-eqb (spot m (map plain es)) (length es) (omega (arith, there.0))))
+    (cases_Bool (before m (plain_mark e.mark)))
+
+-- a part in two: both are sorted, and the spot is in the first, or as far behind it as it is in the second
+module _ (m : PlainMark) (part far near : List Entry) (is : part ≡ far ++ near) where
+  whole : map plain part ≡ map plain far ++ map plain near
+  whole = ap (map plain) is ∙ map-append plain far near
+
+  pub parts_sorted : ascends (map plain part) ≡ true → (ascends (map plain far) ≡ true) × (ascends (map plain near) ≡ true)
+  parts_sorted sorted = ascends_parts (map plain far) (map plain near) (ap ascends (sym whole) ∙ sorted)
+
+  pub spot_near : (spot m (map plain far) == length far) ≡ true → length far + spot m (map plain near) ≡ spot m (map plain part)
+  spot_near all =
+      let many = length-map far plain in
+      let behind : spot m (map plain far) ≡ length (map plain far) = eqb-true _ _ all ∙ sym many in
+      ap (λ n. n + spot m (map plain near)) (sym many) ∙ sym (spot_back m (map plain far) (map plain near) behind) ∙ ap (spot m) (sym whole)
+
+  pub spot_far : (spot m (map plain far) == length far) ≡ false → spot m (map plain far) ≡ spot m (map plain part)
+  spot_far some =
+      let many = length-map far plain in
+      let upto = spot_within m (map plain far) in
+      elim (cases_lt (spot m (map plain far)) (length (map plain far))) [
+        | inl less ↦ sym (spot_front m (map plain far) (map plain near) less) ∙ ap (spot m) (sym whole)
+        | inr not_less ↦ absurd (eqb-false (spot m (map plain far)) (length far) some (omega (arith, not_less, many, upto)))
+      ]

@@ -5,8 +5,8 @@ use Rattle.entry_log.specs.Order.{before}
 use Rattle.entry_log.proofs.Places.{partitioned, spot_point}
 use Rattle.entry_log.proofs.order.halve_to.Goals as goal
 
-pub returns : goal.returns
-returns c =
+pub returns-clause-value : goal.returns-clause-value
+returns-clause-value c =
     let m = plain_mark c.args.mark.now in
     let point =
     IsPartitionPoint-from_clause (λ e. not (before m (plain_mark e.mark))) c.args.part.now c.partition_point.result c.partition_point.ensures.partitioned
