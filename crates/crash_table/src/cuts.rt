@@ -1,7 +1,7 @@
 // A journal in a file is cut at each byte, and opened again.
 use crate::Table;
 use crate::script::play;
-use anyhow::Context;
+use anyhow::{Context, anyhow};
 use journal::appender::Appender;
 use journal::disk::find;
 use journal::keeper::Keeper;
@@ -11,7 +11,9 @@ use std::fs::{File, OpenOptions};
 // Opens the journal in a file; says how many bytes were cut off.
 fn open(rt: &HostRuntime, path: &str) -> anyhow::Result<(Keeper<Appender<File>>, usize)> {
     let found = find(rt, ".", path)?;
-    let opened = Keeper::open(rt.alloc(), 0, found.file, found.bytes.as_slice())?;
+    let opened = Keeper::open(rt.alloc(), 0, found.file, found.bytes.as_slice()).map_err(
+        |_| anyhow!("not opened"),
+    )?;
     Ok((opened.keeper, opened.cut))
 }
 

@@ -1,4 +1,5 @@
 // What is played: makes and commits, which are synced, and takes, which are not.
+use anyhow::anyhow;
 use bookings::entry::{Choice, Choices, Entry, Kind, Mark, Stay, Supply};
 use bookings::refusal::Refusal;
 use entry_log::vector::Vector;
@@ -65,19 +66,24 @@ pub fn script(heap: Global) -> anyhow::Result<Vec<Step>> {
     Ok(steps)
 }
 
-// Plays some steps.
-pub fn play<J: Journal + Drop>(keeper: &mut Keeper<J>, steps: &[Step]) -> Result<(), Trouble> {
-    for step in steps {
-        match step {
-            Step::Make(kind) => {
-                keeper.make(*kind)?;
-            }
-            Step::Commit => {
-                keeper.commit()?;
-            }
-            Step::Tentative(entry) => keeper.take_tentative(*entry, &Vector::zero())?,
-            Step::Committed(place, entry) => keeper.take_committed(*place, *entry)?,
+fn play_step<J: Journal + Drop>(keeper: &mut Keeper<J>, step: &Step) -> Result<(), Trouble> {
+    match step {
+        Step::Make(kind) => {
+            keeper.make(*kind)?;
         }
+        Step::Commit => {
+            keeper.commit()?;
+        }
+        Step::Tentative(entry) => keeper.take_tentative(*entry, &Vector::zero())?,
+        Step::Committed(place, entry) => keeper.take_committed(*place, *entry)?,
+    }
+    Ok(())
+}
+
+// Plays some steps.
+pub fn play<J: Journal + Drop>(keeper: &mut Keeper<J>, steps: &[Step]) -> anyhow::Result<()> {
+    for step in steps {
+        play_step(keeper, step).map_err(|_| anyhow!("a step was not done"))?;
     }
     Ok(())
 }

@@ -1,6 +1,7 @@
 // The states that a replica was in: after no step, after the first, and so on.
 use crate::Table;
 use crate::script::{Step, play};
+use anyhow::anyhow;
 use bookings::limits::{HUTS, NIGHTS};
 use journal::appender::Appender;
 use journal::journal::Journal;
@@ -15,7 +16,8 @@ pub type Played = Keeper<Appender<Memory>>;
 // A replica over an empty journal in memory, that has played some steps.
 pub fn played(heap: Global, steps: &[Step]) -> anyhow::Result<Played> {
     let memory = Memory::new(heap, JOURNAL_ROOM)?;
-    let mut keeper = Keeper::open(heap, 0, memory, &[])?.keeper;
+    let opened = Keeper::open(heap, 0, memory, &[]).map_err(|_| anyhow!("not opened"))?;
+    let mut keeper = opened.keeper;
     play(&mut keeper, steps)?;
     Ok(keeper)
 }
@@ -38,7 +40,7 @@ impl<'a> Table<'a> {
         let mut states = Vec::with_capacity(rt.alloc(), 16)?;
         for count in 0..=steps.len() {
             let mut keeper = played(rt.alloc(), &steps[0..count])?;
-            keeper.sync()?;
+            keeper.sync().map_err(|_| anyhow!("not synced"))?;
             states.push(keeper)?;
         }
         Ok(Table { rt, steps, states })

@@ -1,6 +1,7 @@
 // A table with a row for each call of a replica and each number by which it refuses.
 #![tactic(auto)]
 
+use anyhow::anyhow;
 use bookings::book::CAPACITY;
 use bookings::entry::{Choices, Entry, Kind, Mark};
 use bookings::refusal::Refusal;
@@ -134,6 +135,10 @@ impl<'a, P: Print> Table<'a, P> {
     }
 }
 
+fn open(heap: Global, hut: u8) -> anyhow::Result<Replica> {
+    Replica::new(heap, hut).map_err(|_| anyhow!("no replica"))
+}
+
 fn open_hut_16(heap: Global) -> Result<(), Refusal> {
     match Replica::new(heap, 16) {
         Err(Fault::Refused(why)) => Err(why),
@@ -147,7 +152,7 @@ fn main(rt: HostRuntime) -> anyhow::Result<()> {
     row(&rt, "open hut 16", open_hut_16(heap))?;
     let mut table = Table {
         out: &rt,
-        replica: Replica::new(heap, 1)?,
+        replica: open(heap, 1)?,
     };
     table.make_and_ask()?;
     table.take_tentative()?;
@@ -155,7 +160,7 @@ fn main(rt: HostRuntime) -> anyhow::Result<()> {
     table.out_of_stamps()?;
     let mut full = Table {
         out: &rt,
-        replica: Replica::new(heap, 0)?,
+        replica: open(heap, 0)?,
     };
     full.fill();
     full.out_of_room()

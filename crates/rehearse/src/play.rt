@@ -1,6 +1,7 @@
 // What each line of the script does, and what is written for it.
 use crate::carry::carry;
 use crate::say::{or_refuse, say};
+use anyhow::bail;
 use console::answer::Answer;
 use console::answer::starts::Usage;
 use console::command::{Command, Expected};
@@ -48,6 +49,7 @@ fn open(
         Command::Huts { huts } => match Cast::new(heap, huts.as_slice()) {
             Ok(cast) => *stage = Some(cast),
             Err(NotOpened::Refused(why)) => say(out, Answer::Refused { why })?,
+            Err(NotOpened::Memory) => bail!("no memory for the huts"),
             Err(why) => return Err(why.into()),
         },
         _ => say_expected(out, Expected::HutsFirst)?,
@@ -65,6 +67,7 @@ fn answer(
     letter: Hex,
 ) -> anyhow::Result<()> {
     match command {
+        Command::Pass => {}
         Command::Huts { .. } => say_expected(out, Expected::HutsOnce)?,
         Command::At { hut } => {
             let meant = cast.at(*hut).map_err(Into::into);
