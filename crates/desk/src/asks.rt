@@ -51,6 +51,7 @@ pub fn ask<D: Desk>(
         (Untold (D.state desk.old) (D.state desk.new) (D.shut desk.new) command.now) }
     ensures leaves { (k : Kept) → D.keeps desk.old k → MatchResult result (λ _. D.keeps desk.new (line_makes command.now (bytes_of letter.entry.digits.now) k)) (RestsAs (D.keeps desk.new) k (line_refused command.now k) (LineFinds (D.finds desk.new) command.now (bytes_of letter.entry.digits.now) k)) }
     ensures beside { (kept : ℕ → Kept) → D.beside desk.old kept → D.beside desk.new kept }
+    ensures places { D.places desk.new ≡ D.places desk.old }
     ensures writes { OnOk result (LineWrites page.new.bytes.items command.now (D.state desk.old)) }
     ensures brings { (k : Kept) → D.keeps desk.old k → OnOk result (LineBrings (D.kept_out desk.new) (D.came desk.new) command.now (bytes_of letter.entry.digits.now) k) }
     ensures network { (m : Mail) (i : ℕ) → i < huts → D.keeps desk.old (m.hut i) → Honest m command.now (bytes_of letter.entry.digits.now)
@@ -89,6 +90,7 @@ pub fn or_refused(asked: Result<Reply, Unplayed>) -> Result<Reply, Unplayed>
 fn make<D: Desk>(desk: &mut D, request: &Request) -> Result<Reply, Unplayed>
     ensures keeps { (k : Kept) → D.keeps desk.old k → MatchResult result (λ _. D.keeps desk.new (synced (makes (asked request.now) k))) (Rests (D.keeps desk.new) k (RequestOk (asked request.now) × FindsOf (D.finds desk.new) (makes (asked request.now) k))) }
     ensures beside { (kept : ℕ → Kept) → D.beside desk.old kept → D.beside desk.new kept }
+    ensures places { D.places desk.new ≡ D.places desk.old }
     ensures answer { MatchResult result
         (Told (D.state desk.old) (D.state desk.new) (commands.Make request.now))
         (Untold (D.state desk.old) (D.state desk.new) (D.shut desk.new) (commands.Make request.now)) }
@@ -102,6 +104,7 @@ fn make<D: Desk>(desk: &mut D, request: &Request) -> Result<Reply, Unplayed>
 fn commit<D: Desk>(desk: &mut D) -> Result<Reply, Unplayed>
     ensures keeps { (k : Kept) → D.keeps desk.old k → MatchResult result (λ _. D.keeps desk.new (commits_synced k)) (Rests (D.keeps desk.new) k (FindsOf (D.finds desk.new) (commits k))) }
     ensures beside { (kept : ℕ → Kept) → D.beside desk.old kept → D.beside desk.new kept }
+    ensures places { D.places desk.new ≡ D.places desk.old }
     ensures answer { MatchResult result
         (Told (D.state desk.old) (D.state desk.new) commands.Ink)
         (Untold (D.state desk.old) (D.state desk.new) (D.shut desk.new) commands.Ink) }
@@ -124,6 +127,7 @@ fn write<D: Desk>(
 ) -> Result<Reply, Unplayed>
     ensures keeps { (k : Kept) → D.keeps desk.old k → MatchResult result (λ _. D.keeps desk.new (synced k)) (Rests (D.keeps desk.new) k (FindsOf (D.finds desk.new) k)) }
     ensures beside { (kept : ℕ → Kept) → D.beside desk.old kept → D.beside desk.new kept }
+    ensures places { D.places desk.new ≡ D.places desk.old }
     ensures letter { OnOk result (page.new.bytes.items ≡ encode_letter (letter_for committed vector.now.all (D.state desk.old))) }
     ensures answer { MatchResult result
         (Told (D.state desk.old) (D.state desk.new) (commands.Letter committed vector.now))
@@ -153,6 +157,7 @@ fn hear<D: Desk>(desk: &mut D, page: &mut Page, letter: Hex) -> Result<Reply, Un
     ensures taken { OnOk result (TypedTold (bytes_of letter.entry.digits.now) result) }
     ensures keeps { (k : Kept) → D.keeps desk.old k → MatchResult result (λ _. D.keeps desk.new (takes_typed (bytes_of letter.entry.digits.now) k)) (Rests (D.keeps desk.new) k (FindsOf (D.finds desk.new) (take_bytes (bytes_of letter.entry.digits.now) k))) }
     ensures beside { (kept : ℕ → Kept) → D.beside desk.old kept → D.beside desk.new kept }
+    ensures places { D.places desk.new ≡ D.places desk.old }
     ensures report { (k : Kept) → D.keeps desk.old k → OnOk result (LineBrings (D.kept_out desk.new) (D.came desk.new) commands.Take (bytes_of letter.entry.digits.now) k) }
     ensures answer { MatchResult result
         (Told (D.state desk.old) (D.state desk.new) commands.Take)
@@ -171,6 +176,7 @@ fn hear<D: Desk>(desk: &mut D, page: &mut Page, letter: Hex) -> Result<Reply, Un
 fn show<D: Desk>(desk: &mut D, command: &Command) -> Result<Reply, Unplayed>
     ensures keeps { (k : Kept) → D.keeps desk.old k → MatchResult result (λ _. D.keeps desk.new (shows command.now k)) (RestsAs (D.keeps desk.new) k (shows command.now k) (FindsOf (D.finds desk.new) k)) }
     ensures beside { (kept : ℕ → Kept) → D.beside desk.old kept → D.beside desk.new kept }
+    ensures places { D.places desk.new ≡ D.places desk.old }
     ensures serves { (k : Kept) (guest : Guest) → D.keeps desk.old k → LineServes command.now result guest k }
     ensures answer { MatchResult result
         (Shown (D.state desk.new) command.now)

@@ -36,6 +36,9 @@ pub trait Desk {
     // Each other hut of its network keeps that; no call here changes it.
     ghost beside: { Self → (ℕ → Kept) → Type 0 };
 
+    // Which place of its network is meant, and whose huts stand at which; no call here changes it.
+    ghost places: { Self → ℕ × List ℕ };
+
     // Something of it is not synced.
     ghost unsynced: { Self → Type 0 };
 
@@ -53,7 +56,8 @@ pub trait Desk {
             (λ m. (make_refusal (plain_kind kind) (state self.old) ≡ None) × (plain_mark m ≡ next_mark (state self.old)))
             (λ e. Undone e (λ n. make_refusal (plain_kind kind) (state self.old) ≡ Some n) (shut self.new)) }
         ensures keeps { (k : Kept) → keeps self.old k → MatchResult result (λ _. keeps self.new (synced (makes (plain_kind kind) k))) (Rests (keeps self.new) k (FindsOf (finds self.new) (makes (plain_kind kind) k))) }
-        ensures beside { (kept : ℕ → Kept) → beside self.old kept → beside self.new kept };
+        ensures beside { (kept : ℕ → Kept) → beside self.old kept → beside self.new kept }
+        ensures places { places self.new ≡ places self.old };
 
     // Commits the first tentative entry, if there is one, and syncs that.
     fn commit(&mut self) -> Result<Option<Mark>, Unplayed>
@@ -61,20 +65,23 @@ pub trait Desk {
             (λ m. (is_primary (state self.old) ≡ true) × (option_map plain_mark m ≡ first_mark (state self.old).log.tentative))
             (λ e. Undone e (λ n. (is_primary (state self.old) ≡ false) × (n ≡ 6)) (shut self.new)) }
         ensures keeps { (k : Kept) → keeps self.old k → MatchResult result (λ _. keeps self.new (commits_synced k)) (Rests (keeps self.new) k (FindsOf (finds self.new) (commits k))) }
-        ensures beside { (kept : ℕ → Kept) → beside self.old kept → beside self.new kept };
+        ensures beside { (kept : ℕ → Kept) → beside self.old kept → beside self.new kept }
+        ensures places { places self.new ≡ places self.old };
 
     // All that it knows is synced.
     fn sync(&mut self) -> Result<(), Unplayed>
         ensures answer { MatchResult result (λ _. unsynced self.new → ⊥) (λ e. Undone e (λ _. ⊥) (shut self.new)) }
         ensures keeps { (k : Kept) → keeps self.old k → MatchResult result (λ _. keeps self.new (synced k)) (Rests (keeps self.new) k (FindsOf (finds self.new) k)) }
-        ensures beside { (kept : ℕ → Kept) → beside self.old kept → beside self.new kept };
+        ensures beside { (kept : ℕ → Kept) → beside self.old kept → beside self.new kept }
+        ensures places { places self.new ≡ places self.old };
 
     // Syncs, and writes a letter for one that has what a summary says.
     fn write(&mut self, has: &Summary, page: &mut Page) -> Result<(), Unplayed>
         ensures answer { MatchResult result (λ _. Unit {0}) Unwritten }
         ensures letter { OnOk result (page.new.bytes.items ≡ encode_letter (letter_for has.now.committed has.now.vector.stamps (state self.old))) }
         ensures keeps { (k : Kept) → keeps self.old k → MatchResult result (λ _. keeps self.new (synced k)) (Rests (keeps self.new) k (FindsOf (finds self.new) k)) }
-        ensures beside { (kept : ℕ → Kept) → beside self.old kept → beside self.new kept };
+        ensures beside { (kept : ℕ → Kept) → beside self.old kept → beside self.new kept }
+        ensures places { places self.new ≡ places self.old };
 
     // Bytes come, whatever they are.
     fn hear(&mut self, bytes: &[u8]) -> Result<(), Unplayed>
@@ -82,7 +89,8 @@ pub trait Desk {
         ensures keeps { (k : Kept) → keeps self.old k → MatchResult result (λ _. keeps self.new (take_bytes bytes.now k)) (Rests (keeps self.new) k (FindsOf (finds self.new) (take_bytes bytes.now k))) }
         ensures report { (k : Kept) → keeps self.old k → OnOk result
             ((kept_out self.new ≡ told_out (read_letter bytes.now)) × (map plain_outcome (came self.new) ≡ outcomes_of (items_of (read_letter bytes.now)) k)) }
-        ensures beside { (kept : ℕ → Kept) → beside self.old kept → beside self.new kept };
+        ensures beside { (kept : ℕ → Kept) → beside self.old kept → beside self.new kept }
+        ensures places { places self.new ≡ places self.old };
 
     // The replica, to be shown: none where something of it is not synced, and just there.
     fn shown(&self) -> Option<&Replica>

@@ -99,6 +99,8 @@ impl<J: Journal + Drop> Desk for Station<J> {
     // It is one hut alone.
     ghost beside = { λ _ _. Unit {0} };
 
+    ghost places = { λ _. (0, []) };
+
     ghost unsynced = { λ s. J.clean s.keeper.journal ≡ false };
 
     ghost shut = { λ s. J.shut s.keeper.journal ≡ true };

@@ -1,9 +1,10 @@
 -- Huts and letters by their numbers.
-use Rattle.std.specs.Prelude.{◌≡◌, ℕ, ◌-◌, ◌<◌, ◌≤◌, ◌⊎◌, List, [], ◌∷◌, ◌++◌, length, get_or, vec_items, vec_len, MatchResult}
+use Rattle.std.specs.Prelude.{◌≡◌, ℕ, ◌-◌, ◌<◌, ◌≤◌, ◌⊎◌, List, [], ◌∷◌, ◌++◌, map, length, get_or, vec_items, vec_len, MatchResult}
 use Rattle.bookings.specs.Refusals.{number_of}
 use Rattle.bookings.specs.declared.refusal.Refusal.{Refusal}
 use Rattle.journal.specs.Finding.{Found}
 use Rattle.journal.specs.History.{Kept}
+use Rattle.journal.specs.Keeping.{state_by}
 use Rattle.network.specs.Acts.{Told, Denied, cut_of}
 use Rattle.network.specs.Casts.{Absent}
 use Rattle.network.specs.Net.{Event, Syncs, Writes, after, put}
@@ -81,6 +82,10 @@ KeptAt qs i k = (kept : ℕ → Kept) × Follows qs kept × (kept (hut_at qs i) 
 -- the replica at a place keeps something, and each other that
 abbrev pub BesideAt : List Hut → (place : ℕ) → (ℕ → Kept) → Type 0
 BesideAt qs i kept = (k : Kept) × Follows qs (put (hut_at qs i) k kept)
+
+-- which place is meant, and whose huts stand at which
+abbrev pub placing : List Hut → (place : ℕ) → ℕ × List ℕ
+placing qs i = (i, map (λ q. (state_by q).hut) qs)
 
 -- a crash may leave these bytes of the journal of the replica at a place
 abbrev pub FoundAt : List Hut → (place : ℕ) → List ℕ → Type 0

@@ -1,7 +1,7 @@
 // The hut that is meant, as the lines of a hut know it.
 ghost use Rattle.network.specs.Stages.{Unsynced, huts_of, state_at};
 ghost use Rattle.rehearsal.specs.Telling.{cast_found, cast_told};
-ghost use Rattle.rehearsal.specs.Carrying.{BesideAt, FoundAt, KeptAt};
+ghost use Rattle.rehearsal.specs.Carrying.{BesideAt, FoundAt, KeptAt, placing};
 
 use super::Cast;
 use bookings::entry::{Kind, Mark};
@@ -22,6 +22,8 @@ impl Desk for Cast {
     ghost finds = { λ c bs. FoundAt (huts_of c.rehearsal.stage) c.current bs };
 
     ghost beside = { λ c kept. BesideAt (huts_of c.rehearsal.stage) c.current kept };
+
+    ghost places = { λ c. placing (huts_of c.rehearsal.stage) c.current };
 
     ghost unsynced = { λ c. Unsynced (huts_of c.rehearsal.stage) c.current };
 

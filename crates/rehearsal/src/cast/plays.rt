@@ -14,7 +14,7 @@ ghost use Rattle.network.specs.Stands.{Forged, Heard, Sent, Stands, Turned, Went
 ghost use Rattle.network.specs.Taking.{Reports};
 ghost use Rattle.network.specs.declared.act.Act.TheVariants as acts;
 ghost use Rattle.network.specs.declared.unplayed.Unplayed.TheVariants.{Memory, Refused, Failed};
-ghost use Rattle.rehearsal.specs.Carrying.{BesideAt, heard_at};
+ghost use Rattle.rehearsal.specs.Carrying.{BesideAt, heard_at, placing};
 
 use super::Cast;
 use bookings::refusal::Refusal;
@@ -69,6 +69,7 @@ impl Cast {
         ensures steps { (es : List Event) → Stands self.old.rehearsal.stage es → Went self.old.rehearsal.stage self.new.rehearsal.stage self.old.current act.now result es }
         ensures turned { Turned self.old.rehearsal.stage self.new.rehearsal.stage self.old.current act.now result }
         ensures beside { (kept : ℕ → Kept) → BesideAt (huts_of self.old.rehearsal.stage) self.old.current kept → BesideAt (huts_of self.new.rehearsal.stage) self.new.current kept }
+        ensures placing { placing (huts_of self.new.rehearsal.stage) self.new.current ≡ placing (huts_of self.old.rehearsal.stage) self.old.current }
         ensures guests { (es : List Event) (guest : ℕ) → Stands self.old.rehearsal.stage es → ForGuest self.old.rehearsal.stage self.new.rehearsal.stage self.old.current act.now result es guest }
         ensures report { (kept : ℕ → Kept) → Follows (huts_of self.old.rehearsal.stage) kept → OnOk result
             (MatchOption (comes_of (bytes_sent self.old.rehearsal.stage) act.now) (Unit {0})
@@ -90,6 +91,7 @@ impl Cast {
         ensures taken { (kept : ℕ → Kept) → Follows (huts_of self.old.rehearsal.stage) kept
             → Follows (huts_of self.new.rehearsal.stage) (heard_at (huts_of self.old.rehearsal.stage) self.old.current bytes.now kept) }
         ensures beside { (kept : ℕ → Kept) → BesideAt (huts_of self.old.rehearsal.stage) self.old.current kept → BesideAt (huts_of self.new.rehearsal.stage) self.new.current kept }
+        ensures placing { placing (huts_of self.new.rehearsal.stage) self.new.current ≡ placing (huts_of self.old.rehearsal.stage) self.old.current }
         ensures report { (kept : ℕ → Kept) → Follows (huts_of self.old.rehearsal.stage) kept
             → Reports self.new.rehearsal.stage.report (read_letter bytes.now) (kept (hut_at (huts_of self.old.rehearsal.stage) self.old.current)) }
         ensures letters { self.new.rehearsal.stage.letters ≡ self.old.rehearsal.stage.letters }
